@@ -1,0 +1,4 @@
+pub mod Geometry
+pub mod Weighting
+pub mod Candidates
+pub mod Laws

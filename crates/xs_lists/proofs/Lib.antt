@@ -1,0 +1,7 @@
+pub mod Bits
+pub mod Each
+pub mod Cut
+pub mod Walk
+pub mod FieldBits
+pub mod Listing
+mod FirstRows
