@@ -3,5 +3,7 @@ pub mod Each
 pub mod Cut
 pub mod Walk
 pub mod FieldBits
+pub mod Packing
+pub mod Bitwise
 pub mod Listing
 mod FirstRows

@@ -1,0 +1,4 @@
+pub mod Unique
+pub mod OneData
+pub mod Written
+pub mod Flags

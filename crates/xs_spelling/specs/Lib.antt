@@ -1,0 +1,4 @@
+pub mod Counts
+pub mod Data
+pub mod Written
+pub mod Laws
