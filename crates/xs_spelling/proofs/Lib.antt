@@ -2,3 +2,4 @@ pub mod Unique
 pub mod OneData
 pub mod Written
 pub mod Flags
+pub mod Bitwise

@@ -1,0 +1,5 @@
+pub mod Bytes
+pub mod Causes
+pub mod Gates
+pub mod Memories
+pub mod Streams
