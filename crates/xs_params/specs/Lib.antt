@@ -1,0 +1,4 @@
+pub mod Picture
+pub mod Stream
+pub mod Check
+pub mod Headers

@@ -1,0 +1,11 @@
+use Rattle.std.proofs.Common.{◌+◌, ◌-◌, ◌^◌, ◌<◌, ◌≤◌, ◌≡◌, ap, suc, ◌∙◌, arith, sym}
+use Rattle.std.proofs.Math.Nat.{pow-suc, mul_comm}
+use Rattle.std.proofs.lemmas.Nat.{shl_whole}
+use Rattle.xs_bits.proofs.numbers.unary.Goals as goal
+
+pub returns : goal.returns
+returns c =
+    let two : 2 < 2 ^ 2 = omega arith in
+    let fits : 2 + c.args.ones ≤ 64 = omega arith in
+    let one : c.args.ones + 1 ≡ suc c.args.ones = omega arith in
+    ap (λ n. n - 2) (shl_whole 2 2 c.args.ones 64 two fits ∙ mul_comm 2 (2 ^ c.args.ones) ∙ sym (ap (λ k. 2 ^ k) one ∙ pow-suc 2 c.args.ones))

@@ -1,0 +1,254 @@
+-- Encodings are in the grammar.
+use Rattle.std.proofs.Common.{◌≡◌, ℕ, ◌+◌, ◌-◌, ◌*◌, ◌/◌, ◌^◌, ◌<◌, ◌≤◌, max, ℤ, pos, List, [], ◌∷◌, map, length, get_or, refl, sym, ap, subst, ◌∙◌, arith, inl, inr}
+use Rattle.std.specs.Prelude.{Bool, true, false, nat_lt, nat_le, if◌then◌else◌, unsigned_abs, unwrap_or, find, Some, None, Ok}
+use Rattle.std.specs.List.{flat_map, sum_by, concat, AllByRecursion}
+use Rattle.std.proofs.lemmas.Bool.{and_parts, and_from, ltb-true, leb-true, le-leb, false≢true}
+use Rattle.std.proofs.lemmas.Nat.{pow_pos}
+use Rattle.std.proofs.lemmas.List.Concat.{length-flat_map, concat_is}
+use Rattle.std.proofs.lemmas.List.Folds.{flat_map-map}
+use Rattle.std.proofs.lemmas.List.FromFn.{length-map-range_with_len, get_or-map-range_with_len}
+use Rattle.xs_lists.specs.Spelling.{upto, SpellsEach}
+use Rattle.xs_lists.proofs.Each.{each-made, range-all}
+use Rattle.xs_lists.proofs.Walk.{all-of_map}
+use Rattle.xs_layout.specs.declared.Candidate.{Candidate}
+use Rattle.xs_layout.specs.Candidates.{finest}
+use Rattle.xs_layout.specs.Weighting.{truncation_of}
+use Rattle.xs_params.specs.declared.header.Header.{Header}
+use Rattle.xs_params.specs.declared.settings.Settings.{Settings}
+use Rattle.xs_params.specs.Check.{AreInRange}
+use Rattle.xs_params.specs.Headers.{header_of}
+use Rattle.xs_params.specs.Stream.{Stream, stream_bytes}
+use Rattle.xs_signal.specs.Quantiser.{quantised, sent, with_sign_of}
+use Rattle.xs_signal.proofs.Laws.{quantised_fits}
+use Rattle.xs_signal.proofs.Magnitudes.{size_signed}
+use Rattle.xs_grammar.specs.Geometry.{slice_count}
+use Rattle.xs_grammar.specs.Precinct.{Content, weight_of}
+use Rattle.xs_grammar.specs.Slice.{IsSlice}
+use Rattle.xs_grammar.specs.Header.{IsAccepted}
+use Rattle.xs_grammar.specs.Codestream.{IsCodestream}
+use Rattle.xs_grammar.specs.Coded.{header_bytes, IsWritableLine}
+use Rattle.xs_grammar.proofs.Coded.{written_slice, writable_everywhere}
+use Rattle.xs_grammar.proofs.CodedStream.{written_header}
+use Rattle.xs_grammar.proofs.Local.{slice_is_local}
+use Rattle.xs_grammar.proofs.Sizes.{size_of_slice}
+use Rattle.xs_rate.specs.Coefficients.{Rows, rows_of}
+use Rattle.xs_rate.specs.Content.{planes_of, greatest_of, cut_of, content_of}
+use Rattle.xs_rate.specs.Built.{candidates}
+use Rattle.xs_rate.specs.Encoding.{IsBuilt, content_at, slice_at, slices_at, size_at, fields_fit_at, fits_at, coarsest, chosen_candidate, encoding_of_rows, encoding_of}
+use Rattle.xs_rate.specs.Laws.{AreSmall}
+use Rattle.xs_rate.specs.Encoded.{chosen_stream, NoneOver, chosen_content, stated_header, IsEncoding, EncodedInGrammar}
+use Rattle.xs_rate.proofs.Digits.{digits-most}
+use Rattle.xs_rate.proofs.Finest.{planes-room}
+use Rattle.xs_rate.proofs.Rows.{small_rows}
+use Rattle.xs_rate.proofs.Grey.{grey, built-header, grey-length}
+use Rattle.xs_rate.proofs.Fits.{grey-fits, lengths-most, joined-stream, length-stream}
+use Rattle.xs_rate.proofs.FirstOver.{cases_over, same_stream, no_both}
+
+-- Each line of small rows can be written, at every candidate
+
+sent-small : (h : Header) (planes cut : ℕ) (z : ℤ) → unsigned_abs z < 2 ^ planes → unsigned_abs (sent h.quant planes cut z) < 2 ^ (max planes cut - cut)
+sent-small h planes cut z small = cases (nat_lt cut planes) refl
+  where
+    cases : (some : Bool) → nat_lt cut planes ≡ some → unsigned_abs (if some then with_sign_of z (quantised h.quant planes cut (unsigned_abs z)) else pos 0) < 2 ^ (max planes cut - cut)
+    cases true is =
+        let less : cut < planes = ltb-true cut planes is in
+        let left : max planes cut - cut ≡ planes - cut = omega (arith, less) in
+        subst (λ k. unsigned_abs (with_sign_of z (quantised h.quant planes cut (unsigned_abs z))) < 2 ^ k) (sym left)
+        (omega (arith, size_signed z (quantised h.quant planes cut (unsigned_abs z)), quantised_fits h.quant planes cut (unsigned_abs z) (omega (arith, less)) small))
+    cases false is = pow_pos (max planes cut - cut)
+
+pub line-writable : (h : Header) (rows : Rows) (candidate : ℕ → Candidate) → AreSmall rows → (band line : ℕ) → IsWritableLine h (content_of h rows candidate) band line
+line-writable h rows candidate small band line = record {
+  most = λ group inside. omega (arith, digits-most (greatest_of (rows band line) group));
+  cut = λ group inside. omega arith;
+  small = λ column inside.
+      sent-small h (planes_of (rows band line) (column / 4)) (cut_of h candidate band line) (rows band line column) (planes-room (rows band line) (small band line) column);
+}
+
+-- Slices at a candidate
+
+pub slice-spelled : (h : Header) (rows : Rows) (slice : ℕ) (candidate : Candidate) → h.run_mode ≡ 0 → slice < 2 ^ 16 → (candidate.q < 2 ^ 8) × (candidate.r < 2 ^ 8) → AreSmall rows
+    → fields_fit_at h rows slice candidate ≡ true → IsSlice h (content_at h rows candidate) slice (slice_at h rows slice candidate)
+slice-spelled h rows slice candidate plain index room small fits =
+    written_slice h (content_at h rows candidate) (λ _ _. 0) slice plain index
+    (writable_everywhere h (content_at h rows candidate) (λ _ _. 0) slice (λ precinct. room) (λ precinct band. omega arith) (line-writable h rows (λ _. candidate) small)) fits
+
+-- a slice speaks of its own candidate alone
+pub slice-local : (h : Header) (rows : Rows) (chosen : ℕ → Candidate) (slice : ℕ) (bytes : List ℕ) → 1 ≤ h.hsl → h.nly ≤ h.nlx
+    → IsSlice h (content_at h rows (chosen slice)) slice bytes → IsSlice h (content_of h rows chosen) slice bytes
+slice-local h rows chosen slice bytes some below p =
+    slice_is_local h (content_at h rows (chosen slice)) (content_of h rows chosen) slice bytes some below (record {
+      q = λ precinct e. ap (λ k. (chosen k).q) (sym e);
+      r = λ precinct e. ap (λ k. (chosen k).r) (sym e);
+      count = λ band line e. ap (λ k. λ group. max (planes_of (rows band line) group) (truncation_of (chosen k).q (chosen k).r (weight_of h band))) (sym e);
+      value = λ band line e. ap (λ k. λ column. sent h.quant (planes_of (rows band line) (column / 4)) (truncation_of (chosen k).q (chosen k).r (weight_of h band)) (rows band line column)) (sym e);
+    }) p
+
+-- The choice of the candidate
+
+found : {A : Type 0} (test : A → Bool) (xs : List A) (last : A) → test last ≡ true → test (unwrap_or (find test xs) last) ≡ true
+found test [] last h = h
+found {A} test (x ∷ xs) last h = cases (test x) refl (found test xs last h)
+  where
+    cases : (t : Bool) → test x ≡ t → test (unwrap_or (find test xs) last) ≡ true → test (unwrap_or (if t then Some x else find test xs) last) ≡ true
+    cases true is rest = is
+    cases false is rest = rest
+
+pub chosen-fits : (h : Header) (rows : Rows) (share slice : ℕ) → size_at h rows slice (coarsest h) ≤ share → fields_fit_at h rows slice (coarsest h) ≡ true
+    → fits_at h rows share slice (chosen_candidate h rows share slice) ≡ true
+chosen-fits h rows share slice within fits =
+    found (fits_at h rows share slice) (candidates h) (coarsest h)
+    (and_from (nat_le (size_at h rows slice (coarsest h)) share) (fields_fit_at h rows slice (coarsest h)) (le-leb (size_at h rows slice (coarsest h)) share within) fits)
+
+-- the one candidate
+pub chosen-finest : (h : Header) (rows : Rows) (share slice : ℕ) → chosen_candidate h rows share slice ≡ finest
+chosen-finest h rows share slice = cases (fits_at h rows share slice finest)
+  where
+    cases : (t : Bool) → unwrap_or (if t then Some finest else None) finest ≡ finest
+    cases true = refl
+    cases false = refl
+
+-- The codestream
+
+concat_map : {A : Type 0} (f : A → List ℕ) (xs : List A) → concat (map f xs) ≡ flat_map f xs
+concat_map f xs = concat_is (map f xs) ∙ flat_map-map (λ l. l) f xs
+
+accepted : (lcod width height hsl : ℕ) → (32 ≤ width) × (width ≤ 8192) → (4 ≤ height) × (height ≤ 8192) → width * height ≤ 2 ^ 24 → 1 ≤ hsl → slice_count (grey lcod width height hsl) ≤ 2047
+    → IsAccepted (grey lcod width height hsl)
+accepted lcod width height hsl wide high area some few = record {
+  width = wide;
+  height = high;
+  area = area;
+  depth = inl refl;
+  hsl = some;
+  bits = (refl, refl);
+  colour = λ e. absurd (false≢true e);
+  nlx = omega arith;
+  nly = omega arith;
+  slices = few;
+  run_mode = omega arith;
+  narrow = omega (arith, wide);
+  weights = refl;
+}
+
+-- what is known of the settings
+pub record AreBounds (width height hsl share : ℕ) : Type 0 where
+  pub wide : (32 ≤ width) × (width ≤ 8192)
+  pub high : (4 ≤ height) × (height ≤ 8192)
+  pub area : width * height ≤ 2 ^ 24
+  pub some : 1 ≤ hsl
+  pub most : hsl < 2 ^ 16
+  pub few : slice_count (grey 0 width height hsl) ≤ 2047
+  pub small_share : share ≤ 524286
+
+grey_encoding : (width height hsl share : ℕ) (rows : Rows) → AreBounds width height hsl share → AreSmall rows → NoneOver (grey 0 width height hsl) rows share
+    → IsEncoding (grey 0 width height hsl) rows share (chosen_stream (grey 0 width height hsl) rows share)
+grey_encoding width height hsl share rows b small within = record {
+  whole = subst (λ n. IsCodestream (grey n width height hsl) content (stream_bytes stream)) (sym total) whole;
+  count = length-map-range_with_len slice_of 0 count;
+  each = λ slice inside. record {
+    spelled = subst (IsSlice (stated_header h stream) content slice) (sym (at slice inside)) (spelled (length (stream_bytes stream)) slice inside);
+    within = subst (λ l. length l ≤ share) (sym (at slice inside)) (short slice inside);
+  };
+}
+  where
+    h : Header
+    h = grey 0 width height hsl
+
+    count : ℕ
+    count = slice_count (grey 0 width height hsl)
+
+    chosen : ℕ → Candidate
+    chosen = chosen_candidate (grey 0 width height hsl) rows share
+
+    content : Content
+    content = chosen_content (grey 0 width height hsl) rows share
+
+    slice_of : ℕ → List ℕ
+    slice_of slice = slice_at h rows slice (chosen slice)
+
+    stream : Stream
+    stream = chosen_stream h rows share
+
+    size : ℕ
+    size = length (header_bytes h) + sum_by length (slices_at h rows chosen) + 2
+
+    fits : (slice : ℕ) → slice < count → fits_at h rows share slice (chosen slice) ≡ true
+    fits slice inside = chosen-fits h rows share slice (within slice inside) (grey-fits 0 width height hsl slice rows b.wide.1 small)
+
+    parts : (slice : ℕ) → slice < count → (nat_le (size_at h rows slice (chosen slice)) share ≡ true) × (fields_fit_at h rows slice (chosen slice) ≡ true)
+    parts slice inside = and_parts (nat_le (size_at h rows slice (chosen slice)) share) (fields_fit_at h rows slice (chosen slice)) (fits slice inside)
+
+    short : (slice : ℕ) → slice < count → length (slice_of slice) ≤ share
+    short slice inside =
+        let most = leb-true (size_at h rows slice (chosen slice)) share (parts slice inside).0 in
+        omega (arith, size_of_slice h (content_at h rows (chosen slice)) (λ _ _. 0) slice, most)
+
+    room : (slice : ℕ) → ((chosen slice).q < 2 ^ 8) × ((chosen slice).r < 2 ^ 8)
+    room slice = subst (λ (c : Candidate). (c.q < 2 ^ 8) × (c.r < 2 ^ 8)) (sym (chosen-finest h rows share slice)) (omega arith, omega arith)
+
+    spelled : (lcod slice : ℕ) → slice < count → IsSlice (grey lcod width height hsl) content slice (slice_of slice)
+    spelled lcod slice inside =
+        slice-local (grey lcod width height hsl) rows chosen slice (slice_of slice) b.some (omega arith)
+        (slice-spelled (grey lcod width height hsl) rows slice (chosen slice) refl (omega (arith, inside, b.few)) (room slice) small (parts slice inside).1)
+
+    at : (slice : ℕ) → slice < count → get_or (slices_at h rows chosen) slice [] ≡ slice_of slice
+    at slice inside = get_or-map-range_with_len slice_of 0 count slice slice [] inside (omega arith)
+
+    all_short : AllByRecursion (λ slice. length slice ≤ share) (slices_at h rows chosen)
+    all_short = all-of_map (λ slice. length slice ≤ share) slice_of (upto count) (range-all (λ slice. length (slice_of slice) ≤ share) 0 count (λ slice low inside. short slice (omega (arith, inside))))
+
+    sum : length (concat (slices_at h rows chosen)) ≡ sum_by length (slices_at h rows chosen)
+    sum = ap length (concat_is (slices_at h rows chosen)) ∙ length-flat_map (λ l. l) (slices_at h rows chosen)
+
+    total : length (stream_bytes stream) ≡ size
+    total = omega (arith, length-stream stream, grey-length size width height hsl, grey-length 0 width height hsl, sum)
+
+    small_size : size < 2 ^ 32
+    small_size = omega (arith, grey-length 0 width height hsl, sum, lengths-most share (slices_at h rows chosen) b.small_share all_short, length-map-range_with_len slice_of 0 count, b.few)
+
+    whole : IsCodestream (grey size width height hsl) content (stream_bytes stream)
+    whole = record {
+      header = header_bytes (grey size width height hsl);
+      slices = concat (slices_at h rows chosen);
+      joined = joined-stream stream;
+      headed = written_header (grey size width height hsl) (accepted size width height hsl b.wide b.high b.area b.some b.few)
+          (record { lcod = small_size; hsl = b.most; gains = (omega arith, (omega arith, tt)); priorities = (omega arith, (omega arith, tt)) });
+      spelled = subst (SpellsEach (IsSlice (grey size width height hsl) content) (upto count)) (sym (concat_map slice_of (upto count)))
+          (each-made (IsSlice (grey size width height hsl) content) slice_of (upto count)
+          (range-all (λ slice. IsSlice (grey size width height hsl) content slice (slice_of slice)) 0 count (λ slice low inside. spelled size slice (omega (arith, inside)))));
+      stated = inr (sym total);
+    }
+
+bounds : (s : Settings) → IsBuilt s → AreInRange s → AreBounds s.shape.width s.shape.height s.hsl s.share
+bounds s built range = record {
+  wide = (range.shape.least_width, range.shape.most_width);
+  high = (range.shape.least_height, range.shape.most_height);
+  area = range.shape.area;
+  some = range.least_height;
+  most = range.most_height;
+  few = subst (λ (h : Header). slice_count h ≤ 2047) (built-header s built) range.slices;
+  small_share = omega (arith, range.most_share, range.most_chunk);
+}
+
+rows_in_grammar : (s : Settings) (rows : Rows) (stream : Stream) → IsBuilt s → AreInRange s → AreSmall rows → encoding_of_rows (header_of s) rows s.share ≡ Ok stream
+    → IsEncoding (header_of s) rows s.share stream
+rows_in_grammar s rows stream built range small =
+    subst (λ (h : Header). encoding_of_rows h rows s.share ≡ Ok stream → IsEncoding h rows s.share stream) (sym (built-header s built)) go
+  where
+    h : Header
+    h = grey 0 s.shape.width s.shape.height s.hsl
+
+    go : encoding_of_rows (grey 0 s.shape.width s.shape.height s.hsl) rows s.share ≡ Ok stream → IsEncoding (grey 0 s.shape.width s.shape.height s.hsl) rows s.share stream
+    go e = elim (cases_over h rows s.share) [
+      | inl none ↦
+          subst (IsEncoding h rows s.share) (same_stream (encoding_of_rows h rows s.share) (chosen_stream h rows s.share) stream none.1 e)
+          (grey_encoding s.shape.width s.shape.height s.hsl s.share rows (bounds s built range) small none.0)
+      | inr some ↦ absurd (no_both (encoding_of_rows h rows s.share) stream some.0 e some.2)
+    ]
+
+pub encoded_in_grammar : EncodedInGrammar
+unfolding encoding_of
+encoded_in_grammar s picture stream built range e =
+    rows_in_grammar s (rows_of (header_of s) picture) stream built range
+    (λ band line column. let most = small_rows (header_of s) picture band line column in omega (arith, most)) e

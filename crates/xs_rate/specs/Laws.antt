@@ -1,0 +1,60 @@
+-- Laws of the encoding.
+use Rattle.std.specs.Prelude.{◌≡◌, ℕ, ◌^◌, ◌<◌, ◌≤◌, IsTrue, false, ℤ, pos, unsigned_abs, List, length, All}
+use Rattle.xs_layout.specs.declared.Format.TheVariants.{Mono}
+use Rattle.xs_params.specs.declared.header.Header.{Header}
+use Rattle.xs_params.specs.Picture.{Picture, sample_at}
+use Rattle.xs_signal.specs.Fold.{fold}
+use Rattle.xs_signal.specs.Samples.{scale_in}
+use Rattle.xs_signal.specs.Wavelet.{low_count, high_count, low_of, high_of}
+use Rattle.xs_grammar.specs.Geometry.{band_width_of}
+use Rattle.xs_params.specs.declared.settings.Settings.{Settings}
+use Rattle.xs_params.specs.Check.{AreInRange}
+use Rattle.xs_params.specs.Headers.{header_of}
+use Rattle.xs_params.specs.Stream.{stream_bytes}
+use Rattle.xs_grammar.specs.Geometry.{slice_count}
+use Rattle.xs_rate.specs.Coefficients.{Rows, rows_of}
+use Rattle.xs_rate.specs.Encoding.{IsBuilt, stream_of, coarsest, fields_fit_at}
+use Rattle.xs_rate.specs.Finest.{IsSmallRow}
+
+-- Rows
+
+-- a header of a grey picture that is split once across and not down
+pub record IsGreyHeader (h : Header) : Type 0 where
+  pub format : h.shape.format ≡ Mono
+  pub colour : h.colour ≡ false
+  pub across : h.nlx ≡ 1
+  pub down : h.nly ≡ 0
+
+-- a line of a grey picture, scaled
+abbrev pub grey_line : Header → Picture → ℕ → ℕ → ℤ
+grey_line h picture line k = scale_in h.shape.depth h.bw (sample_at picture 0 line k)
+
+-- its rows: band 0 has the low part of each line, and band 1 the high part
+pub record AreGreyRows (h : Header) (picture : Picture) : Type 0 where
+  pub low_width : band_width_of h 0 ≡ low_count h.shape.width
+  pub high_width : band_width_of h 1 ≡ high_count h.shape.width
+  pub low : (line column : ℕ) → column < low_count h.shape.width → rows_of h picture 0 line column ≡ fold h.fq (low_of h.shape.width (grey_line h picture line) column)
+  pub high : (line column : ℕ) → column < high_count h.shape.width → rows_of h picture 1 line column ≡ fold h.fq (high_of h.shape.width (grey_line h picture line) column)
+  pub low_past : (line column : ℕ) → low_count h.shape.width ≤ column → rows_of h picture 0 line column ≡ pos 0
+  pub high_past : (line column : ℕ) → high_count h.shape.width ≤ column → rows_of h picture 1 line column ≡ pos 0
+
+abbrev pub GreyRows : Type 0
+GreyRows = (h : Header) (picture : Picture) → IsGreyHeader h → AreGreyRows h picture
+
+-- the coefficients of every picture are small
+abbrev pub SmallRows : Type 0
+SmallRows = (h : Header) (picture : Picture) (band line column : ℕ) → unsigned_abs (rows_of h picture band line column) ≤ 32767
+
+-- Fields
+
+abbrev pub AreSmall : Rows → Type 0
+AreSmall rows = (band line : ℕ) → IsSmallRow (rows band line)
+
+-- at the coarsest candidate each length in a slice has room in its field
+abbrev pub CoarsestFits : Type 0
+CoarsestFits = (s : Settings) (rows : Rows) (slice : ℕ) → IsBuilt s → AreInRange s → AreSmall rows → IsTrue (fields_fit_at (header_of s) rows slice (coarsest (header_of s)))
+
+-- and the length of a codestream has room in its field, where each slice is within its share
+abbrev pub LengthFits : Type 0
+LengthFits = (s : Settings) (slices : List (List ℕ)) → IsBuilt s → AreInRange s → length slices ≡ slice_count (header_of s) → All (λ slice. length slice ≤ s.share) slices
+    → length (stream_bytes (stream_of (header_of s) slices)) < 2 ^ 32

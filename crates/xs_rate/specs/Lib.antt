@@ -1,0 +1,9 @@
+pub mod Coefficients
+pub mod Content
+pub mod Modes
+pub mod Built
+pub mod Encoding
+pub mod Finest
+pub mod Laws
+pub mod Encoded
+pub mod Grey

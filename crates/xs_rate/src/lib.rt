@@ -1,0 +1,59 @@
+//! The encoding of a picture: which coefficients are sent, at which candidate, in which bytes. Definitions, and laws that
+//! hold of them.
+#![tactic(auto)]
+
+ghost use Rattle.xs_rate.specs.Encoded.{EncodedInGrammar, FirstOver};
+ghost use Rattle.xs_rate.specs.Finest.{FinestLine};
+ghost use Rattle.xs_rate.specs.Grey.{GreySlices, OneCandidate};
+ghost use Rattle.xs_rate.specs.Laws.{CoarsestFits, GreyRows, LengthFits, SmallRows};
+ghost use Rattle.xs_rate.specs.Modes.{FewestIsFirst};
+
+/// A line of small numbers at the finest candidate: each count in ones and a zero, and all signs and planes.
+pub fn finest_line()
+    ensures { FinestLine }
+{}
+
+/// The rows of a grey picture that is split once across: the low part and the high part of each line.
+pub fn grey_rows()
+    ensures { GreyRows }
+{}
+
+/// The coefficients of every picture are small.
+pub fn small_rows()
+    ensures { SmallRows }
+{}
+
+/// At the coarsest candidate each length in a slice has room in its field.
+pub fn coarsest_fits()
+    ensures { CoarsestFits }
+{}
+
+/// The length of a codestream whose slices are within their shares has room in its field.
+pub fn length_fits()
+    ensures { LengthFits }
+{}
+
+/// A picture is refused exactly where a slice is over its share, by the first such slice, and else it has an encoding.
+pub fn first_over()
+    ensures { FirstOver }
+{}
+
+/// What is given for a picture is in the grammar, and each of its slices is within the share.
+pub fn encoded_in_grammar()
+    ensures { EncodedInGrammar }
+{}
+
+/// The mode of a band in a precinct is the first with the fewest bits.
+pub fn fewest_is_first()
+    ensures { FewestIsFirst }
+{}
+
+/// There is one candidate, the finest.
+pub fn one_candidate()
+    ensures { OneCandidate }
+{}
+
+/// The bytes of a slice of a grey picture, line by line.
+pub fn grey_slices()
+    ensures { GreySlices }
+{}

@@ -1,0 +1,129 @@
+-- The first bad word stands near the front: there are no more different names than rows.
+use Rattle.std.proofs.Common.{◌≡◌, ◌≢◌, ℕ, zero, suc, ◌+◌, ◌*◌, ◌/◌, ◌<◌, ◌≤◌, Bool, true, false, cond, ◌||◌, eqb, List, Option, Some, None, map, length, get_or, refl, sym, ap, ◌∙◌, bytes_eq, ◌&&◌, inl, inr, arith}
+use Rattle.std.specs.Prelude.{is_none, IfSome}
+use Rattle.std.specs.List.{AllByRecursion, IsDistinct, find, list_any, position_or_len, range_with_len}
+use Rattle.std.proofs.lemmas.Bool.Decides.{eqb_tells, leb_tells, nat_tests}
+use Rattle.std.proofs.lemmas.List.Folds.{find_at}
+use Rattle.std.proofs.lemmas.List.FromFn.{get_or-range_with_len, length-map-range_with_len, length-range_with_len}
+use Rattle.std.proofs.lemmas.List.Recursion.{or_at}
+use Rattle.std.proofs.lemmas.List.Sums.{passes_at_first}
+use Rattle.std.proofs.lemmas.Map.Steps.{length-le_from_distinct_below}
+use Rattle.std.proofs.lemmas.Option.{slice_get_past}
+use Rattle.std.proofs.lemmas.Slice.Eq.{bytes_eq-Decides}
+use Rattle.xs_lists.specs.Spelling.{upto}
+use Rattle.xs_words.specs.Table.{Row, encode_rows, form}
+use Rattle.xs_words.specs.Words.{bad_place, is_bad_name, is_bad_value, is_name_at, is_name_place, is_named_before, name_word, row_named, word_at}
+use Rattle.xs_words.proofs.Places.{stop}
+use Rattle.xs_words.proofs.BadPlace.{good_before}
+use Rattle.xs_words.proofs.Given.{neither}
+
+-- the place in the table of the row that a word names
+abbrev names : List ℕ → Row → Bool
+names word row = bytes_eq word (name_word row.name)
+
+abbrev seat_of : List ℕ → ℕ
+seat_of word = position_or_len (names word) encode_rows
+
+position-below : {A : Type 0} (test : A → Bool) (xs : List A) → is_none (find test xs) ≡ false → position_or_len test xs < length xs
+position-below test xs known =
+    elim (leb_tells (length xs) (position_or_len test xs)) [
+      | inl past ↦
+          let none = ap is_none (find_at test xs ∙ slice_get_past xs (position_or_len test xs) past.1) in
+          cc
+      | inr within ↦ within.1
+    ]
+
+seat-below : (word : List ℕ) → is_none (row_named encode_rows word) ≡ false → seat_of word < length encode_rows
+seat-below word known = position-below (names word) encode_rows known
+
+same_seat : (word other : List ℕ) → is_none (row_named encode_rows word) ≡ false → is_none (row_named encode_rows other) ≡ false → seat_of word ≡ seat_of other → word ≡ other
+same_seat word other known also same =
+    let row = get_or encode_rows (seat_of word) form in
+    let first = (bytes_eq-Decides word (name_word row.name)).0 (passes_at_first (names word) encode_rows form (seat-below word known)) in
+    let second = (bytes_eq-Decides other (name_word (get_or encode_rows (seat_of other) form).name)).0 (passes_at_first (names other) encode_rows form (seat-below other also)) in
+    first ∙ ap (λ i. name_word (get_or encode_rows i form).name) same ∙ sym second
+
+apart_from : (f : ℕ → ℕ) (low n x : ℕ) → ((k : ℕ) → low ≤ k → k < low + n → x ≢ f k) → AllByRecursion (λ y. eqb x y ≡ false) (map f (range_with_len low n))
+apart_from f low zero x apart = tt
+apart_from f low (suc n) x apart = (
+  elim (eqb_tells x (f low)) [ inl same ↦ absurd (apart low (omega arith) (omega arith) same.1) | inr other ↦ other.0 ],
+  apart_from f (low + 1) n x (λ k from below. apart k (omega arith) (omega arith)),
+)
+
+distinct_by : (f : ℕ → ℕ) (low n : ℕ) → ((j k : ℕ) → low ≤ j → j < k → k < low + n → f j ≢ f k) → IsDistinct eqb (map f (range_with_len low n))
+unfolding IsDistinct
+distinct_by f low zero apart = tt
+distinct_by f low (suc n) apart = (
+  apart_from f (low + 1) n (f low) (λ k from below. apart low k (omega arith) (omega arith) (omega arith)),
+  distinct_by f (low + 1) n (λ j k from above below. apart j k (omega arith) above (omega arith)),
+)
+
+below-step : (q x high : ℕ) (rest : Bool) → x < high → (rest ≡ true → q < high) → (eqb q x || rest) ≡ true → q < high
+below-step q x high rest here more e =
+    elim (eqb_tells q x) [ inl same ↦ omega (arith, same.1) | inr other ↦ more (sym (ap (λ b. b || rest) other.0) ∙ e) ]
+
+below_all : (f : ℕ → ℕ) (high low n : ℕ) → ((k : ℕ) → low ≤ k → k < low + n → f k < high) → (q : ℕ) → list_any (eqb q) (map f (range_with_len low n)) ≡ true → q < high
+below_all f high low zero each q e = cc
+below_all f high low (suc n) each q e =
+    below-step q (f low) high (list_any (eqb q) (map f (range_with_len (low + 1) n))) (each low (omega arith) (omega arith))
+    (below_all f high (low + 1) n (λ k from below. each k (omega arith) (omega arith)) q) e
+
+-- numbers below a bound that are all different are no more than the bound
+pigeons : (f : ℕ → ℕ) (high n : ℕ) → ((k : ℕ) → k < n → f k < high) → ((j k : ℕ) → j < k → k < n → f j ≢ f k) → n ≤ high
+pigeons f high n each apart =
+    let size = length-map-range_with_len f 0 n in
+    let few = length-le_from_distinct_below (map f (range_with_len 0 n)) high (distinct_by f 0 n (λ j k from above below. apart j k above (omega arith))) (below_all f high 0 n (λ k from below. each k (omega arith))) in
+    omega arith
+
+-- the names before the first bad word
+name_at : List (List ℕ) → ℕ → List ℕ
+name_at words j = word_at words (2 * j + 1)
+
+name_place-odd : (j : ℕ) → is_name_place (2 * j + 1) ≡ true
+name_place-odd j = grind (arith, nat_tests)
+
+chosen : (b x y : Bool) → b ≡ true → cond b x y ≡ x
+chosen true x y e = refl
+chosen false x y e = cc
+
+good_name : (words : List (List ℕ)) (j : ℕ) → 2 * j + 1 < stop (length words) (bad_place words)
+    → (is_none (row_named encode_rows (word_at words (2 * j + 1))) ≡ false) × (is_named_before words (word_at words (2 * j + 1)) (2 * j + 1) ≡ false)
+good_name words j below =
+    let place = 2 * j + 1 in
+    let good = good_before words place (omega arith) below in
+    let name = sym (chosen (is_name_place place) (is_bad_name encode_rows words place) (is_bad_value encode_rows words place) (name_place-odd j)) ∙ good in
+    neither (is_none (row_named encode_rows (word_at words place))) (is_named_before words (word_at words place) place) name
+
+-- a name that stands earlier is named before
+named_before : (words : List (List ℕ)) (j k : ℕ) → j < k → word_at words (2 * j + 1) ≡ word_at words (2 * k + 1) → is_named_before words (word_at words (2 * k + 1)) (2 * k + 1) ≡ true
+named_before words j k above same =
+    let word = word_at words (2 * k + 1) in
+    let test = is_name_at words word in
+    let there : 2 * j + 1 < length (upto (2 * k + 1)) = omega (arith, length-range_with_len 0 (2 * k + 1)) in
+    let start : 0 + (2 * j + 1) ≡ 2 * j + 1 = omega arith in
+    let at : get_or (upto (2 * k + 1)) (2 * j + 1) 0 ≡ 2 * j + 1 = get_or-range_with_len 0 (2 * k + 1) (2 * j + 1) 0 (omega arith) ∙ start in
+    let spelled = (bytes_eq-Decides (word_at words (2 * j + 1)) word).1 same in
+    let named : test (2 * j + 1) ≡ true = ap (λ b. b && bytes_eq (word_at words (2 * j + 1)) word) (name_place-odd j) ∙ spelled in
+    or_at (list_any test) test refl (λ _ _. refl) (upto (2 * k + 1)) (2 * j + 1) 0 there (ap test at ∙ named)
+
+names_apart : (words : List (List ℕ)) (j k : ℕ) → j < k → 2 * k + 1 < stop (length words) (bad_place words)
+    → seat_of (word_at words (2 * j + 1)) ≢ seat_of (word_at words (2 * k + 1))
+names_apart words j k above below same =
+    let first = good_name words j (omega arith) in
+    let second = good_name words k below in
+    let repeated = named_before words j k above (same_seat (word_at words (2 * j + 1)) (word_at words (2 * k + 1)) first.0 second.0 same) in
+    let once = second.1 in
+    cc
+
+near-where : (words : List (List ℕ)) (found : Option ℕ) → bad_place words ≡ found → IfSome found (λ place. place ≤ 19)
+near-where words None e = tt
+near-where words (Some place) e =
+    let end : stop (length words) (bad_place words) ≡ place = ap (stop (length words)) e in
+    let few = pigeons (λ j. seat_of (word_at words (2 * j + 1))) 9 (place / 2)
+    (λ k below. seat-below (word_at words (2 * k + 1)) (good_name words k (omega arith)).0)
+    (λ j k above below. names_apart words j k above (omega arith)) in
+    omega arith
+
+-- the first bad word is one of the first twenty
+pub near : (words : List (List ℕ)) → IfSome (bad_place words) (λ place. place ≤ 19)
+near words = near-where words (bad_place words) refl

@@ -1,0 +1,7 @@
+mod Digits
+mod Rows
+mod Places
+mod BadPlace
+mod Given
+mod Asked
+mod Bound

@@ -1,0 +1,29 @@
+-- The options, and the rows of the table.
+use Rattle.std.proofs.Common.{◌≡◌, ℕ, Bool, true, false, cond, List, [], ◌∷◌, Option, Some, None, map, refl, bytes_eq, Bor, ap, ◌∙◌}
+use Rattle.std.specs.List.{find}
+use Rattle.std.specs.Option.{option_map, option_copied}
+use Rattle.xs_words.specs.Table.{Row, encode_rows}
+use Rattle.xs_words.specs.Words.{name_word, row_named}
+use Rattle.xs_words.specs.Options.{row_of}
+use Rattle.xs_words.specs.declared.option.EncodeOption.{EncodeOption}
+use Rattle.xs_words.specs.declared.option.EncodeOption.TheVariants.{Form, Width, Height, Format, Nlx, Nly, Quant, Share, Slice}
+
+abbrev pub all_options : List EncodeOption
+all_options = Form ∷ Width ∷ Height ∷ Format ∷ Nlx ∷ Nly ∷ Quant ∷ Share ∷ Slice ∷ []
+
+-- a step of find, under a map
+step_of : {A B : Type 0} (f : A → B) (x : A) (rest : Option A) (test : Bool) → option_map f (cond test (Some x) rest) ≡ cond test (Some (f x)) (option_map f rest)
+step_of f x rest true = refl
+step_of f x rest false = refl
+
+find-map : {A B : Type 0} (f : A → B) (p : B → Bool) (xs : List A) → option_map f (find (λ x. p (f x)) xs) ≡ find p (map f xs)
+find-map f p [] = refl
+find-map f p (x ∷ xs) =
+    step_of f x (find (λ y. p (f y)) xs) (p (f x)) ∙ ap (λ rest. cond (p (f x)) (Some (f x)) rest) (find-map f p xs)
+
+pub copied_is : {A : Type 0} (found : Option (Bor A)) → option_copied found ≡ option_map (λ (x : Bor A). x.now) found
+copied_is None = refl
+copied_is (Some x) = refl
+
+pub option_named : (word : List ℕ) → option_map row_of (find (λ (o : EncodeOption). bytes_eq word (name_word (row_of o).name)) all_options) ≡ row_named encode_rows word
+option_named word = find-map row_of (λ (row : Row). bytes_eq word (name_word row.name)) all_options

@@ -1,0 +1,23 @@
+-- Settings whose numbers have room in their fields: one that has none becomes one that is refused in the same place.
+use Rattle.std.specs.Prelude.{ℕ, ◌^◌, nat_lt, if◌then◌else◌}
+use Rattle.xs_params.specs.declared.settings.Settings.{Settings}
+use Rattle.xs_params.specs.declared.settings.Setting.{Setting}
+use Rattle.xs_params.specs.declared.settings.Field.{Field}
+use Rattle.xs_params.specs.declared.settings.Field.TheVariants.{Nlx, Nly, Hsl}
+
+-- the number, or else another where it has more than so many bits
+abbrev pub fitting : ℕ → ℕ → ℕ → ℕ
+fitting bits other number = if nat_lt number (2 ^ bits) then number else other
+
+abbrev pub narrowed : Settings → Settings
+narrowed s = record s { nlx = fitting 8 255 s.nlx; nly = fitting 8 255 s.nly; hsl = fitting 16 0 s.hsl }
+
+-- the value of a setting as it was asked for, where the check was of the narrowed settings
+abbrev pub value_asked : Settings → Field → ℕ → ℕ
+value_asked s Nlx value = s.nlx
+value_asked s Nly value = s.nly
+value_asked s Hsl value = s.hsl
+value_asked s _ value = value
+
+abbrev pub as_asked : Settings → Setting → Setting
+as_asked s setting = record setting { value = value_asked s setting.field setting.value }

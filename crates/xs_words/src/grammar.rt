@@ -1,0 +1,128 @@
+// Which words are a command.
+ghost use Rattle.std.specs.Prelude.{◌≡◌, ◌<◌, find, length, map, IfSome};
+ghost use Rattle.std.specs.List.{list_any};
+ghost use Rattle.std.specs.String.{string_bytes};
+ghost use Rattle.xs_words.specs.Options.{row_of};
+ghost use Rattle.xs_words.specs.Table.{encode_rows};
+ghost use Rattle.xs_words.specs.Words.{bad_place, end_early, is_bad_name, is_bad_value, is_bad_word, is_missing, is_name_at, is_name_place, is_named_before, name_place, places_of, value_of, word_at};
+
+use crate::option::EncodeOption;
+
+/// The place of the first word that is not as it should be, or the number of words where they end too early.
+pub fn bad_place(words: &[String]) -> Option<usize>
+    ensures { result ≡ bad_place (map string_bytes words.now) }
+{
+    if word_at(words, 0) != "encode" {
+        return Some(0);
+    }
+    match first_bad_word(words) {
+        Some(place) => Some(place),
+        None => ends_early(words).then_some(words.len()),
+    }
+}
+
+/// The word at a place, and an empty one past the end.
+fn word_at(words: &[String], place: usize) -> &str
+    ensures { result.now ≡ word_at (map string_bytes words.now) place }
+{
+    match words.get(place) {
+        Some(word) => word.as_str(),
+        None => "",
+    }
+}
+
+/// The value of an option: the word after its name, or else its default.
+pub fn value_of(words: &[String], option: EncodeOption) -> &str
+    ensures { result.now ≡ value_of (map string_bytes words.now) (row_of option) }
+{
+    match name_place(words, option) {
+        Some(place) => word_at(words, place + 1),
+        None => option.default_value(),
+    }
+}
+
+/// The place of the first word after the command that is not as it should be.
+fn first_bad_word(words: &[String]) -> Option<usize>
+    ensures { result ≡ find (is_bad_word encode_rows (map string_bytes words.now)) (places_of (map string_bytes words.now)) }
+{
+    (1..words.len()).find(|place| is_bad_word(words, *place))
+}
+
+/// Whether the words end where a value is missing, or without a required option.
+fn ends_early(words: &[String]) -> bool
+    ensures { result ≡ end_early encode_rows (map string_bytes words.now) }
+{
+    words.len() % 2 == 0 || lacks_option(words)
+}
+
+/// Whether a required option is not among the words.
+fn lacks_option(words: &[String]) -> bool
+    ensures { result ≡ list_any (is_missing (map string_bytes words.now)) encode_rows }
+{
+    EncodeOption::ALL
+        .iter()
+        .any(|option| is_missing(words, *option))
+}
+
+fn is_missing(words: &[String], option: EncodeOption) -> bool
+    ensures { result ≡ is_missing (map string_bytes words.now) (row_of option) }
+{
+    option.is_required() && name_place(words, option).is_none()
+}
+
+/// The place of an option's name.
+fn name_place(words: &[String], option: EncodeOption) -> Option<usize>
+    ensures place { result ≡ name_place (map string_bytes words.now) (row_of option).name }
+    ensures within { IfSome result (λ place. place < length words.now) }
+{
+    (0..words.len()).find(|place| is_name_at(words, option.word(), *place))
+}
+
+fn is_bad_word(words: &[String], place: usize) -> bool
+    ensures { result ≡ is_bad_word encode_rows (map string_bytes words.now) place }
+{
+    if is_name_place(place) {
+        is_bad_name(words, place)
+    } else {
+        is_bad_value(words, place)
+    }
+}
+
+/// Whether the word names no option, or one that was named before.
+fn is_bad_name(words: &[String], place: usize) -> bool
+    ensures { result ≡ is_bad_name encode_rows (map string_bytes words.now) place }
+{
+    let word = word_at(words, place);
+    EncodeOption::named(word).is_none() || is_named_before(words, word, place)
+}
+
+/// Whether the word stands as a name before the place.
+fn is_named_before(words: &[String], word: &str, place: usize) -> bool
+    ensures { result ≡ is_named_before (map string_bytes words.now) word.now place }
+{
+    (0..place).any(|before| is_name_at(words, word, before))
+}
+
+/// Whether the word is no value of the option before it.
+fn is_bad_value(words: &[String], place: usize) -> bool
+    ensures { result ≡ is_bad_value encode_rows (map string_bytes words.now) place }
+{
+    match EncodeOption::named(word_at(words, place.saturating_sub(1))) {
+        Some(option) => !option.takes(word_at(words, place)),
+        None => true,
+    }
+}
+
+/// Whether the word at a place is this name.
+fn is_name_at(words: &[String], name: &str, place: usize) -> bool
+    ensures { result ≡ is_name_at (map string_bytes words.now) name.now place }
+{
+    is_name_place(place) && word_at(words, place) == name
+}
+
+/// Names stand at the odd places, and values at the even ones after them.
+fn is_name_place(place: usize) -> bool
+    ensures { result ≡ is_name_place place }
+{
+    place % 2 == 1
+}
