@@ -1,0 +1,5 @@
+mod Inputs
+mod Encodings
+mod Followed
+mod Runs
+mod Filled

@@ -1,0 +1,364 @@
+-- How a run ends, from what following the words gave and from what was told.
+use Rattle.std.proofs.Common.{◌≡◌, ℕ, zero, suc, ◌<◌, ◌≤◌, List, [], take, Result, Ok, Err, Option, Some, None, refl, sym, ap, subst, ◌∙◌, arith, inl, inr, ◌⊎◌}
+use Rattle.std.specs.Prelude.{IfSome, Bool, true, false, nat_eq, length, if◌then◌else◌}
+use Rattle.std.specs.Io.KnownBytes.{Appends}
+use Rattle.std.proofs.KnownBytes.{Appends-nil, Keeps-refl}
+use Rattle.xs_params.specs.Picture.{raw_size, picture_of}
+use Rattle.xs_params.specs.Stream.{Stream}
+use Rattle.xs_faults.specs.declared.Budget.{Budget}
+use Rattle.xs_rate.specs.Encoding.{encoding_of}
+use Rattle.xs_cli.specs.declared.stop.Stop.{Stop}
+use Rattle.xs_cli.specs.declared.stop.Stop.TheVariants as stop
+use Rattle.xs_words.specs.declared.command.Refusal.{Refusal}
+use Rattle.xs_words.specs.declared.command.Refusal.TheVariants as refusal
+use Rattle.xs_words.specs.Refusal.{refusal_of}
+use Rattle.xs_words.specs.Command.{settings_of}
+use Rattle.xs_cli.specs.Answer.{Said, IsAnswer, codestream_of, encoded, outcome_of, read_fault_line, said_of, stop_line, stop_of, stop_status}
+use Rattle.xs_cli.specs.Ends.{Change, Ends, HasFailed, IsWriteStatus, Tells, change_of, ends_of}
+use Rattle.xs_cli.specs.Run.{HasAnswer, HasRefusals, HasStatusCause, IsBreak, IsComplete, IsEnding, IsInputFailure, IsRun, IsUnlessBroken, LeavesSource}
+use Rattle.xs_cli.specs.Steps.{IsFollowed, IsUnlessFailed}
+use Rattle.xs_cli.proofs.Followed.{outcome_refused}
+
+-- Statuses
+
+-- the status that a piece was given with, or one that says why it was not given whole
+abbrev pub Ended : Change → ℕ → ℕ → Type 0
+Ended sink wanted status = (status ≡ wanted) ⊎ IsWriteStatus sink status
+
+ended : (sink : Change) (piece : List ℕ) (wanted status : ℕ) → Tells sink piece wanted status → Ended sink wanted status
+ended sink piece wanted status (inl whole) = inl whole.1
+ended sink piece wanted status (inr cut) = inr cut.1
+
+-- any other status is none of these
+never : (sink : Change) (wanted other status : ℕ) → (other < wanted) ⊎ (wanted < other) → other < 8 → Ended sink wanted status → ¬ (status ≡ other)
+never sink wanted other status (inl less) small (inl same) e = omega (arith, less, e, same)
+never sink wanted other status (inr more) small (inl same) e = omega (arith, more, e, same)
+never sink wanted other status unlike small (inr (inl failed)) e = omega (arith, small, e, failed.0)
+never sink wanted other status unlike small (inr (inr memory)) e = omega (arith, small, e, memory)
+
+failed_where_8 : (sink : Change) (wanted status : ℕ) → ¬ (8 ≡ wanted) → Ended sink wanted status → status ≡ 8 → HasFailed sink
+failed_where_8 sink wanted status unlike (inl same) e = absurd (unlike (sym e ∙ same))
+failed_where_8 sink wanted status unlike (inr (inl failed)) e = failed.1
+failed_where_8 sink wanted status unlike (inr (inr memory)) e = absurd (omega (arith, e, memory))
+
+at_most_9 : (sink : Change) (wanted status : ℕ) → wanted ≤ 9 → Ended sink wanted status → status ≤ 9
+at_most_9 sink wanted status most (inl same) = omega (arith, most, same)
+at_most_9 sink wanted status most (inr (inl failed)) = omega (arith, failed.0)
+at_most_9 sink wanted status most (inr (inr memory)) = omega (arith, memory)
+
+unless_broken : (sink : Change) (wanted status : ℕ) → Ended sink wanted status → IsUnlessBroken wanted status
+unless_broken sink wanted status (inl same) = inl same
+unless_broken sink wanted status (inr (inl failed)) = inr (inl failed.0)
+unless_broken sink wanted status (inr (inr memory)) = inr (inr memory)
+
+-- Endings
+
+broken_notes : (ends : Ends) (status : ℕ) → IsWriteStatus ends.notes status → IsBreak ends status
+broken_notes ends status (inl failed) = inl (failed.0, inr failed.1)
+broken_notes ends status (inr memory) = inr memory
+
+broken_output : (ends : Ends) (status : ℕ) → IsWriteStatus ends.output status → IsBreak ends status
+broken_output ends status (inl failed) = inl (failed.0, inl failed.1)
+broken_output ends status (inr memory) = inr memory
+
+-- the codestream was given to the output, and the notes are as before
+ending_by_output : (words : List (List ℕ)) (input : List ℕ) (source output : Change) (held : Option (List ℕ)) (faults : ℕ) (out : List ℕ) (status : ℕ)
+    → Tells output out 0 status → IsEnding words input (said_of (Ok out)) (ends_of source output (change_of held held faults faults)) status
+ending_by_output words input source output held faults out status (inl whole) = inl (record { answered = whole.1; output = whole.0; notes = Appends-nil held })
+ending_by_output words input source output held faults out status (inr cut) = inr (inr (record {
+  cause = broken_output (ends_of source output (change_of held held faults faults)) status cut.1;
+  stands = inl (record { output = cut.0; notes = (0, Appends-nil held) });
+}))
+
+-- the note was given, and the output is as before
+ending_by_note : (words : List (List ℕ)) (input : List ℕ) (source notes : Change) (held : Option (List ℕ)) (faults : ℕ) (why : Stop) (status : ℕ)
+    → Tells notes (stop_line why) (stop_status why) status → IsEnding words input (said_of (Err why)) (ends_of source (change_of held held faults faults) notes) status
+ending_by_note words input source notes held faults why status (inl whole) = inl (record { answered = whole.1; output = Appends-nil held; notes = whole.0 })
+ending_by_note words input source notes held faults why status (inr cut) = inr (inr (record {
+  cause = broken_notes (ends_of source (change_of held held faults faults) notes) status cut.1;
+  stands = inl (record { output = (0, Appends-nil held); notes = cut.0 });
+}))
+
+-- the note on a read fault was given
+ending_by_fault : (words : List (List ℕ)) (input : List ℕ) (said : Said) (source output notes : Change) (status : ℕ) → IsInputFailure words input (ends_of source output notes)
+    → Tells notes read_fault_line 7 status → IsEnding words input said (ends_of source output notes) status
+ending_by_fault words input said source output notes status failure (inl whole) = inr (inl (record { seven = whole.1; failed = failure; notes = whole.0 }))
+ending_by_fault words input said source output notes status failure (inr cut) = inr (inr (record {
+  cause = broken_notes (ends_of source output notes) status cut.1;
+  stands = inr (record { failed = failure; notes = cut.0 });
+}))
+
+took_none : (count : ℕ) → take {A = ℕ} count [] ≡ []
+took_none zero = refl
+took_none (suc count) = refl
+
+-- memory was wanting, and nothing was told
+ending_by_memory : (words : List (List ℕ)) (input : List ℕ) (said : Said) (source notes : Change) (held : Option (List ℕ)) (faults : ℕ) (status : ℕ)
+    → Tells notes [] 9 status → IsEnding words input said (ends_of source (change_of held held faults faults) notes) status
+ending_by_memory words input said source notes held faults status told = inr (inr (record {
+  cause = cause told;
+  stands = inl (record { output = (0, Appends-nil held); notes = (0, nothing told) });
+}))
+  where
+    cause : Tells notes [] 9 status → IsBreak (ends_of source (change_of held held faults faults) notes) status
+    cause (inl whole) = inr whole.1
+    cause (inr cut) = broken_notes (ends_of source (change_of held held faults faults) notes) status cut.1
+
+    nothing : Tells notes [] 9 status → Appends notes.before notes.after []
+    nothing (inl whole) = whole.0
+    nothing (inr cut) = subst (λ (bytes : List ℕ). Appends notes.before notes.after bytes) (took_none cut.0.0) cut.0.1
+
+-- What holds besides
+
+settled : (words : List (List ℕ)) (input : List ℕ) (said : Said) (ends : Ends) (status : ℕ) → ¬ HasFailed ends.input → ¬ HasFailed ends.output → ¬ HasFailed ends.notes
+    → IsEnding words input said ends status → (status ≡ said.status) ⊎ (status ≡ 9)
+settled words input said ends status read output notes (inl finished) = inl finished.answered
+settled words input said ends status read output notes (inr (inl fault)) = absurd (read fault.failed.cause)
+settled words input said ends status read output notes (inr (inr cut)) = elim cut.cause [
+  | inl failed ↦ absurd (elim failed.1 [ inl out ↦ output out | inr told ↦ notes told ])
+  | inr memory ↦ inr memory
+]
+
+complete : (words : List (List ℕ)) (ends : Ends) (status : ℕ) → HasAnswer words ends status → IsComplete words ends status
+complete words ends status whole input told read output notes =
+    let same : whole.input ≡ input = told_input ends.input.before told whole.left in (
+      whole.said,
+      subst (λ i. IsAnswer words i whole.said) same whole.answer,
+      settled words whole.input whole.said ends status read output notes whole.ending,
+    )
+  where
+    told_input : (before : Option (List ℕ)) → before ≡ Some input → IfSome before (λ bytes. bytes ≡ whole.input) → whole.input ≡ input
+    told_input None e left = absurd (cc)
+    told_input (Some bytes) e left = sym left ∙ cc
+
+run_of : (words : List (List ℕ)) (ends : Ends) (status : ℕ) → HasAnswer words ends status → HasStatusCause ends status → HasRefusals words status
+    → LeavesSource words ends.input status → IsRun words ends status
+run_of words ends status headline cause refusals source = record {
+  headline = headline;
+  cause = cause;
+  refusals = refusals;
+  source = source;
+  complete = complete words ends status headline;
+}
+
+-- an outcome that is no refusal of the words comes only where they are not refused
+not_refused : (words : List (List ℕ)) (input : List ℕ) (why : Refusal) (result : Result (List ℕ) Stop) → outcome_of words input ≡ result → ¬ (Err (stop_of why) ≡ result)
+    → ¬ (refusal_of words ≡ Some why)
+not_refused words input why result same unlike e = unlike (sym (outcome_refused words input why e) ∙ same)
+
+-- The codestream was made, and given to the output
+pub after_codestream : (words : List (List ℕ)) (source output : Change) (held : Option (List ℕ)) (faults : ℕ) (out : List ℕ) (status : ℕ) → IsFollowed words source (Ok out)
+    → Tells output out 0 status → IsRun words (ends_of source output (change_of held held faults faults)) status
+after_codestream words source output held faults out status follow told =
+    let by = ended output out 0 status told in
+    run_of words _ status
+    (record {
+      input = follow.input;
+      left = follow.left;
+      said = said_of (Ok out);
+      answer = sym (ap said_of follow.outcome);
+      ending = ending_by_output words follow.input source output held faults out status told;
+    })
+    (record {
+      read = λ e. absurd (never output 0 7 status (inr (omega arith)) (omega arith) by e);
+      write = λ e. inl (failed_where_8 output 0 status (λ x. absurd (omega (arith, x))) by e);
+      range = at_most_9 output 0 status (omega arith) by;
+    })
+    (record {
+      words_only = λ e. absurd (never output 0 1 status (inr (omega arith)) (omega arith) by e);
+      bad_words = λ bad. absurd (not_refused words follow.input (refusal.Words bad.0) (Ok out) follow.outcome (λ x. absurd (cc)) bad.1);
+      setting_only = λ e. absurd (never output 0 2 status (inr (omega arith)) (omega arith) by e);
+      bad_setting = λ bad. absurd (not_refused words follow.input (refusal.Setting bad.0) (Ok out) follow.outcome (λ x. absurd (cc)) bad.1);
+    })
+    (record { whole = λ _. follow.whole; kept = follow.kept })
+
+-- Stops
+
+status_range : (why : Stop) → stop_status why ≤ 9
+status_range (stop.Words place) = omega arith
+status_range (stop.Setting setting) = omega arith
+status_range stop.InputForm = omega arith
+status_range (stop.Budget budget) = omega arith
+status_range stop.ReadFault = omega arith
+status_range stop.Memory = omega arith
+
+not_0 : (why : Stop) → ¬ (0 ≡ stop_status why)
+not_0 (stop.Words place) e = absurd (omega (arith, e))
+not_0 (stop.Setting setting) e = absurd (omega (arith, e))
+not_0 stop.InputForm e = absurd (omega (arith, e))
+not_0 (stop.Budget budget) e = absurd (omega (arith, e))
+not_0 stop.ReadFault e = absurd (omega (arith, e))
+not_0 stop.Memory e = absurd (omega (arith, e))
+
+not_8 : (why : Stop) → ¬ (8 ≡ stop_status why)
+not_8 (stop.Words place) e = absurd (omega (arith, e))
+not_8 (stop.Setting setting) e = absurd (omega (arith, e))
+not_8 stop.InputForm e = absurd (omega (arith, e))
+not_8 (stop.Budget budget) e = absurd (omega (arith, e))
+not_8 stop.ReadFault e = absurd (omega (arith, e))
+not_8 stop.Memory e = absurd (omega (arith, e))
+
+read_cause : (why : Stop) (most : ℕ) (wanted : Result (List ℕ) Stop) (input : List ℕ) (source sink : Change) (status : ℕ) → IsUnlessFailed most wanted input source (Err why)
+    → Ended sink (stop_status why) status → status ≡ 7 → HasFailed source
+read_cause (stop.Words place) most wanted input source sink status outcome by e =
+    absurd (never sink 1 7 status (inr (omega arith)) (omega arith) by e)
+read_cause (stop.Setting setting) most wanted input source sink status outcome by e =
+    absurd (never sink 2 7 status (inr (omega arith)) (omega arith) by e)
+read_cause stop.InputForm most wanted input source sink status outcome by e =
+    absurd (never sink 3 7 status (inr (omega arith)) (omega arith) by e)
+read_cause (stop.Budget budget) most wanted input source sink status outcome by e =
+    absurd (never sink 4 7 status (inr (omega arith)) (omega arith) by e)
+read_cause stop.ReadFault most wanted input source sink status outcome by e = outcome.cause
+read_cause stop.Memory most wanted input source sink status outcome by e =
+    absurd (never sink 9 7 status (inl (omega arith)) (omega arith) by e)
+
+-- What the words are
+
+-- encoding never refuses the words
+never_refuses : (test : Bool) (x : Result Stream Budget) (why : Refusal) → ¬ ((if test then codestream_of x else Err stop.InputForm) ≡ Err (stop_of why))
+never_refuses true (Ok stream) (refusal.Words place) e = cc
+never_refuses true (Ok stream) (refusal.Setting setting) e = cc
+never_refuses true (Err budget) (refusal.Words place) e = cc
+never_refuses true (Err budget) (refusal.Setting setting) e = cc
+never_refuses false x (refusal.Words place) e = cc
+never_refuses false x (refusal.Setting setting) e = cc
+
+same_refusal : (other why : Refusal) → stop_of other ≡ stop_of why → other ≡ why
+same_refusal (refusal.Words place) (refusal.Words other) e = cc
+same_refusal (refusal.Words place) (refusal.Setting setting) e = absurd (cc)
+same_refusal (refusal.Setting setting) (refusal.Words place) e = absurd (cc)
+same_refusal (refusal.Setting setting) (refusal.Setting other) e = cc
+
+refused_by : (words : List (List ℕ)) (input : List ℕ) (why : Refusal) → outcome_of words input ≡ Err (stop_of why) → refusal_of words ≡ Some why
+refused_by words input why = by_refusal (refusal_of words)
+  where
+    by_refusal : (o : Option Refusal) → (elim o as (λ _. Result (List ℕ) Stop) [ None ↦ encoded (settings_of words) input | Some refusal ↦ Err (stop_of refusal) ]) ≡ Err (stop_of why) → o ≡ Some why
+    by_refusal None e = absurd (never_refuses (nat_eq (length input) (raw_size (settings_of words).shape)) (encoding_of (settings_of words) (picture_of (settings_of words).shape input)) why e)
+    by_refusal (Some other) e = ap Some (same_refusal other why (cc))
+
+-- refused words
+refusals_refused : (words : List (List ℕ)) (input : List ℕ) (sink : Change) (status : ℕ) (why : Refusal) → outcome_of words input ≡ Err (stop_of why)
+    → Ended sink (stop_status (stop_of why)) status → HasRefusals words status
+refusals_refused words input sink status (refusal.Words place) outcome by = record {
+  words_only = λ _. (place, refused_by words input (refusal.Words place) outcome);
+  bad_words = λ _. unless_broken sink 1 status by;
+  setting_only = λ e. absurd (never sink 1 2 status (inr (omega arith)) (omega arith) by e);
+  bad_setting = λ bad. absurd (not_refused words input (refusal.Setting bad.0) (Err (stop.Words place)) outcome (λ x. cc) bad.1);
+}
+refusals_refused words input sink status (refusal.Setting setting) outcome by = record {
+  words_only = λ e. absurd (never sink 2 1 status (inl (omega arith)) (omega arith) by e);
+  bad_words = λ bad. absurd (not_refused words input (refusal.Words bad.0) (Err (stop.Setting setting)) outcome (λ x. cc) bad.1);
+  setting_only = λ _. (setting, refused_by words input (refusal.Setting setting) outcome);
+  bad_setting = λ _. unless_broken sink 2 status by;
+}
+
+-- words that are not refused, and a status of 3 or more
+refusals_accepted : (words : List (List ℕ)) (sink : Change) (wanted status : ℕ) → ((why : Refusal) → ¬ (refusal_of words ≡ Some why)) → 3 ≤ wanted
+    → Ended sink wanted status → HasRefusals words status
+refusals_accepted words sink wanted status accepted high by = record {
+  words_only = λ e. absurd (never sink wanted 1 status (inl (omega (arith, high))) (omega arith) by e);
+  bad_words = λ bad. absurd (accepted (refusal.Words bad.0) bad.1);
+  setting_only = λ e. absurd (never sink wanted 2 status (inl (omega (arith, high))) (omega arith) by e);
+  bad_setting = λ bad. absurd (accepted (refusal.Setting bad.0) bad.1);
+}
+
+-- memory was wanting, maybe before the words were read
+refusals_unknown : (words : List (List ℕ)) (sink : Change) (status : ℕ) → Ended sink 9 status → HasRefusals words status
+refusals_unknown words sink status by = record {
+  words_only = λ e. absurd (never sink 9 1 status (inl (omega arith)) (omega arith) by e);
+  bad_words = λ _. broken by;
+  setting_only = λ e. absurd (never sink 9 2 status (inl (omega arith)) (omega arith) by e);
+  bad_setting = λ _. broken by;
+}
+  where
+    broken : {wanted : ℕ} → Ended sink 9 status → IsUnlessBroken wanted status
+    broken (inl memory) = inr (inr memory)
+    broken (inr (inl failed)) = inr (inl failed.0)
+    broken (inr (inr memory)) = inr (inr memory)
+
+-- the result of a stop
+abbrev stopped_by : Stop → Result (List ℕ) Stop
+stopped_by why = Err why
+
+refusals_of : (words : List (List ℕ)) (source sink : Change) (status : ℕ) (why : Stop) → IsFollowed words source (Err why) → Ended sink (stop_status why) status → HasRefusals words status
+refusals_of words source sink status (stop.Words place) follow by = refusals_refused words follow.input sink status (refusal.Words place) follow.outcome by
+refusals_of words source sink status (stop.Setting setting) follow by = refusals_refused words follow.input sink status (refusal.Setting setting) follow.outcome by
+refusals_of words source sink status stop.InputForm follow by =
+    refusals_accepted words sink 3 status (λ why. not_refused words follow.input why (Err stop.InputForm) follow.outcome (unlike_form why)) (omega arith) by
+  where
+    unlike_form : (why : Refusal) → ¬ (stopped_by (stop_of why) ≡ stopped_by stop.InputForm)
+    unlike_form (refusal.Words place) e = cc
+    unlike_form (refusal.Setting setting) e = cc
+refusals_of words source sink status (stop.Budget budget) follow by =
+    refusals_accepted words sink 4 status (λ why. not_refused words follow.input why (Err (stop.Budget budget)) follow.outcome (unlike_budget why)) (omega arith) by
+  where
+    unlike_budget : (why : Refusal) → ¬ (stopped_by (stop_of why) ≡ stopped_by (stop.Budget budget))
+    unlike_budget (refusal.Words place) e = cc
+    unlike_budget (refusal.Setting setting) e = cc
+refusals_of words source sink status stop.ReadFault follow by = refusals_accepted words sink 7 status (λ why e. none_some (follow.command refl) e) (omega arith) by
+  where
+    none_some : {why : Refusal} → refusal_of words ≡ None → refusal_of words ≡ Some why → ⊥
+    none_some none some = cc
+refusals_of words source sink status stop.Memory follow by = refusals_unknown words sink status by
+
+-- The answers
+
+answered : (words : List (List ℕ)) (source notes : Change) (held : Option (List ℕ)) (faults : ℕ) (why : Stop) (status : ℕ) (follow : IsFollowed words source (Err why))
+    → outcome_of words follow.input ≡ Err why → Tells notes (stop_line why) (stop_status why) status → HasAnswer words (ends_of source (change_of held held faults faults) notes) status
+answered words source notes held faults why status follow outcome told = record {
+  input = follow.input;
+  left = follow.left;
+  said = said_of (Err why);
+  answer = sym (ap said_of outcome);
+  ending = ending_by_note words follow.input source notes held faults why status told;
+}
+
+answer_of_stop : (words : List (List ℕ)) (source notes : Change) (held : Option (List ℕ)) (faults : ℕ) (why : Stop) (status : ℕ) → IsFollowed words source (Err why)
+    → Tells notes (stop_line why) (stop_status why) status → HasAnswer words (ends_of source (change_of held held faults faults) notes) status
+answer_of_stop words source notes held faults (stop.Words place) status follow told = answered words source notes held faults (stop.Words place) status follow follow.outcome told
+answer_of_stop words source notes held faults (stop.Setting setting) status follow told = answered words source notes held faults (stop.Setting setting) status follow follow.outcome told
+answer_of_stop words source notes held faults stop.InputForm status follow told = answered words source notes held faults stop.InputForm status follow follow.outcome told
+answer_of_stop words source notes held faults (stop.Budget budget) status follow told = answered words source notes held faults (stop.Budget budget) status follow follow.outcome told
+answer_of_stop words source notes held faults stop.ReadFault status follow told = record {
+  input = follow.input;
+  left = follow.left;
+  said = said_of (outcome_of words follow.input);
+  answer = refl;
+  ending = ending_by_fault words follow.input (said_of (outcome_of words follow.input)) source (change_of held held faults faults) notes status
+      (record {
+        command = follow.command refl;
+        cause = follow.outcome.cause;
+        taken = follow.outcome.taken;
+        front = follow.outcome.front;
+        most = follow.outcome.within;
+        consumed = follow.outcome.consumed;
+        output = Keeps-refl held;
+      })
+      told;
+}
+answer_of_stop words source notes held faults stop.Memory status follow told = record {
+  input = follow.input;
+  left = follow.left;
+  said = said_of (outcome_of words follow.input);
+  answer = refl;
+  ending = ending_by_memory words follow.input (said_of (outcome_of words follow.input)) source notes held faults status told;
+}
+
+-- The run was stopped, which was told to the notes
+pub after_stop : (words : List (List ℕ)) (source notes : Change) (held : Option (List ℕ)) (faults : ℕ) (why : Stop) (status : ℕ) → IsFollowed words source (Err why)
+    → Tells notes (stop_line why) (stop_status why) status → IsRun words (ends_of source (change_of held held faults faults) notes) status
+after_stop words source notes held faults why status follow told =
+    let by = ended notes (stop_line why) (stop_status why) status told in
+    run_of words _ status (answer_of_stop words source notes held faults why status follow told)
+    (record {
+      read = read_cause why _ _ follow.input source notes status follow.outcome by;
+      write = λ e. inr (failed_where_8 notes (stop_status why) status (not_8 why) by e);
+      range = at_most_9 notes (stop_status why) status (status_range why) by;
+    })
+    (refusals_of words source notes status why follow by)
+    (record { whole = λ e. absurd (not_done by e); kept = follow.kept })
+  where
+    not_done : Ended notes (stop_status why) status → ¬ (status ≡ 0)
+    not_done (inl same) e = not_0 why (sym e ∙ same)
+    not_done (inr (inl failed)) e = omega (arith, e, failed.0)
+    not_done (inr (inr memory)) e = omega (arith, e, memory)

@@ -1,0 +1,10 @@
+pub mod Places
+pub mod Machine
+pub mod Steps
+pub mod Sound
+pub mod LaneStep
+pub mod Claim
+pub mod Stories
+pub mod Share
+pub mod Kept
+pub mod Offered

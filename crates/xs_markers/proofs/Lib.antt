@@ -1,0 +1,4 @@
+mod Bodies
+mod Joined
+mod Packed
+pub mod Steps

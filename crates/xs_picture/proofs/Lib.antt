@@ -1,0 +1,4 @@
+pub mod Linked
+pub mod Local
+pub mod Lines
+pub mod Pictures

@@ -1,0 +1,2 @@
+pub mod LineBands
+pub mod Encoded

@@ -1,0 +1,150 @@
+//! Whole pictures.
+ghost use Rattle.std.specs.Prelude.{◌≡◌, ⊤, ℕ, ◌<◌, ◌≤◌, ◌++◌, ◌∷◌, [], IfOk, IfErr, OnOk, MatchResult, All, length, sum_by};
+ghost use Rattle.xs_layout.specs.Candidates.{finest};
+ghost use Rattle.xs_params.specs.Headers.{header_of};
+ghost use Rattle.xs_grammar.specs.Geometry.{slice_count};
+ghost use Rattle.xs_rate.specs.Coefficients.{rows_of};
+ghost use Rattle.xs_rate.specs.Encoding.{IsBuilt, encoding_of, slice_at, slices_at, stream_of};
+ghost use Rattle.xs_rate.specs.Encoded.{NoneOver};
+ghost use Rattle.xs_picture.specs.Encoded.{IsEncoding, IsOver, IsRefusal};
+
+use crate::line_rows::LineRows;
+use crate::slice::encode_slice;
+use std::alloc::Global;
+use xs_faults::{Budget, SliceRefusal};
+use xs_io::{Memory, Octets};
+use xs_markers::write_header;
+use xs_params::{Checked, Planes, Stream};
+
+/// The codestream of a picture, or the first slice that is over its share at the coarsest candidate. What is built is said
+/// by `IsBuilt`: grey pictures of 8 bits, split once across.
+pub fn encode_picture(
+    alloc: Global,
+    planes: &Planes,
+    settings: &Checked,
+) -> Result<Stream, SliceRefusal>
+    requires shape { planes.now.shape ≡ settings.now.shape }
+    requires built { IsBuilt settings.now }
+    ensures encoding { IsEncoding (encoding_of settings.now planes.now) result }
+{
+    let slices = match encode_slices(alloc, planes, settings) {
+        Ok(slices) => slices,
+        Err(refusal) => return Err(refusal),
+    };
+    match join(alloc, settings, slices) {
+        Ok(stream) => Ok(stream),
+        Err(Memory) => Err(SliceRefusal::Memory),
+    }
+}
+
+// The slices of a picture, or the first that is over its share.
+fn encode_slices(
+    alloc: Global,
+    planes: &Planes,
+    settings: &Checked,
+) -> Result<Vec<Octets>, SliceRefusal>
+    requires shape { planes.now.shape ≡ settings.now.shape }
+    requires built { IsBuilt settings.now }
+    ensures slices { IfOk result (λ slices. slices.items ≡ slices_at (header_of settings.now) (rows_of (header_of settings.now) planes.now) (λ _. finest)) }
+    ensures within { IfOk result (λ _. NoneOver (header_of settings.now) (rows_of (header_of settings.now) planes.now) settings.now.share) }
+    ensures few { IfOk result (λ slices. length slices.items ≤ 2047) }
+    ensures small { IfOk result (λ slices. All (λ slice. length slice ≤ 524286) slices.items) }
+    ensures refused { MatchResult result (λ _. ⊤) (IsRefusal (header_of settings.now) (rows_of (header_of settings.now) planes.now) settings.now.share) }
+{
+    let asked = settings.settings();
+    let height = u32::from(asked.hsl);
+    let count = (asked.shape.height + height - 1) / height;
+    let mut rows = match LineRows::blank(alloc, asked.shape.width) {
+        Ok(rows) => rows,
+        Err(Memory) => return Err(SliceRefusal::Memory),
+    };
+    let mut slices = Vec::new(alloc);
+    'slices: for slice in 0..count {
+        let bytes = match encode_within(alloc, planes, settings, slice, &mut rows) {
+            Ok(bytes) => bytes,
+            Err(refusal) => return Err(refusal),
+        };
+        add(&mut slices, bytes)?;
+    }
+    Ok(slices)
+}
+
+// One more slice.
+fn add(slices: &mut Vec<Octets>, slice: Octets) -> Result<(), SliceRefusal>
+    ensures added { OnOk result (slices.new.items ≡ slices.old.items ++ slice ∷ []) }
+    ensures memory { IfErr result (λ refusal. refusal ≡ SliceRefusal.Memory) }
+{
+    match slices.push(slice) {
+        Ok(()) => Ok(()),
+        Err(_) => Err(SliceRefusal::Memory),
+    }
+}
+
+// The bytes of a slice, unless they are over the share.
+fn encode_within(
+    alloc: Global,
+    planes: &Planes,
+    settings: &Checked,
+    slice: u32,
+    rows: &mut LineRows,
+) -> Result<Octets, SliceRefusal>
+    requires built { IsBuilt settings.now }
+    requires shape { planes.now.shape ≡ settings.now.shape }
+    requires slice { slice < slice_count (header_of settings.now) }
+    requires width { rows.old.width ≡ settings.now.shape.width }
+    ensures bytes { IfOk result (λ bytes. bytes ≡ slice_at (header_of settings.now) (rows_of (header_of settings.now) planes.now) slice finest) }
+    ensures within { IfOk result (λ bytes. length bytes ≤ settings.now.share) }
+    ensures over { MatchResult result (λ _. ⊤) (IsOver (header_of settings.now) (rows_of (header_of settings.now) planes.now) settings.now.share slice) }
+    ensures width { rows.new.width ≡ rows.old.width }
+{
+    let share = settings.settings().share;
+    match encode_slice(alloc, planes, settings, slice, rows) {
+        Ok(bytes) => within(bytes, slice, share),
+        Err(Memory) => Err(SliceRefusal::Memory),
+    }
+}
+
+// The bytes of a slice, unless they are over the share.
+fn within(bytes: Octets, slice: u32, share: u32) -> Result<Octets, SliceRefusal>
+    ensures same { IfOk result (λ kept. kept ≡ bytes) }
+    ensures within { IfOk result (λ kept. length kept ≤ share) }
+    ensures over { IfErr result (λ refusal. (refusal ≡ SliceRefusal.Budget (record { slice = slice; size = length bytes; share = share })) × (share < length bytes)) }
+{
+    let size = bytes.len() as u64;
+    if size > u64::from(share) {
+        return Err(SliceRefusal::Budget(Budget { slice, size, share }));
+    }
+    Ok(bytes)
+}
+
+// The codestream of some slices.
+fn join(alloc: Global, settings: &Checked, slices: Vec<Octets>) -> Result<Stream, Memory>
+    requires built { IsBuilt settings.now }
+    requires few { length slices.items ≤ 2047 }
+    requires small { All (λ slice. length slice ≤ 524286) slices.items }
+    ensures stream { IfOk result (λ stream. stream ≡ stream_of (header_of settings.now) slices.items) }
+{
+    let _asked = settings.settings();
+    let mut header = settings.header(alloc)?;
+    let size = write_header(alloc, &header)?.len() as u32;
+    header.lcod = size + length_of(slices.as_slice()) + 2;
+    let mut stream = Stream::new(alloc, write_header(alloc, &header)?);
+    'joining: for slice in slices {
+        stream.push(slice)?;
+    }
+    Ok(stream)
+}
+
+// The bytes of some slices together.
+fn length_of(slices: &[Octets]) -> u32
+    requires few { length slices.now ≤ 2047 }
+    requires small { All (λ slice. length slice ≤ 524286) slices.now }
+    ensures sum { result ≡ sum_by length slices.now }
+    ensures most { result ≤ 1073213442 }
+{
+    let mut length = 0;
+    for slice in slices {
+        length += slice.len() as u32;
+    }
+    length
+}
