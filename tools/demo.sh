@@ -1,0 +1,67 @@
+#!/bin/sh
+# Makes a grey picture of 512x512 samples, encodes it, and shows what came of it.
+#
+#   sh tools/demo.sh            encodes by the proved program where it stands, else by one that is built without proving
+#                               anything (`rt try`, about a minute), and says which
+#   sh tools/demo.sh --prove    proves every crate and builds the program first (`rt run`; long the first time)
+#
+# The files stay in a new folder, which is named at the end.
+set -eu
+
+top=$(cd "$(dirname "$0")/.." && pwd)
+crate=$top/crates/xsx
+program=$crate/out/xsx
+folder=$(mktemp -d)
+picture=$folder/picture.raw
+stream=$folder/picture.jxs
+width=512
+height=512
+# No slice of four lines of 512 samples has more than 5170 bytes.
+share=6000
+
+# A ramp over twice the width. Row r of the picture is cut from it at place r, so that the ramp slants.
+make_picture() {
+    column=0
+    while [ "$column" -lt $((2 * width)) ]; do
+        printf "\\$(printf %03o $((column / 2 % 256)))"
+        column=$((column + 1))
+    done >"$folder/ramp"
+    row=0
+    while [ "$row" -lt "$height" ]; do
+        tail -c +$((row + 1)) "$folder/ramp" | head -c "$width"
+        row=$((row + 1))
+    done >"$picture"
+    rm "$folder/ramp"
+}
+
+# The first two, or the last two, bytes of the codestream in hexadecimal.
+marker() {
+    "$1" -c 2 "$stream" | od -An -tx1 | tr -d ' \n'
+}
+
+size_of() {
+    wc -c <"$1" | tr -d ' '
+}
+
+prove=${1:-}
+make_picture
+set -- encode --form xs --width "$width" --height "$height" --format mono --nlx 1 --nly 0 \
+    --quant deadzone --share "$share"
+
+if [ "$prove" = --prove ]; then
+    (cd "$crate" && rt run -- "$@" <"$picture" >/dev/null)
+fi
+if [ -x "$program" ]; then
+    "$program" "$@" <"$picture" >"$stream"
+    echo "encoded by $program, which was built after its proof"
+else
+    (cd "$crate" && rt try -- "$@" <"$picture" >"$stream")
+    echo "encoded by a program that was built without proving anything"
+fi
+
+if [ "$(marker head)" != ff10 ] || [ "$(marker tail)" != ff11 ]; then
+    echo "$stream is no codestream" >&2
+    exit 1
+fi
+echo "$picture: $(size_of "$picture") bytes"
+echo "$stream: $(size_of "$stream") bytes"
