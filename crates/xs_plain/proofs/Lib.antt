@@ -1,0 +1,7 @@
+mod AreBits
+mod Counts
+mod Encoded
+mod Passed
+mod Precincts
+mod Matched
+mod Steps

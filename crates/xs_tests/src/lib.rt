@@ -1,0 +1,5 @@
+//! Tests across crates.
+#![tactic(auto)]
+
+#[cfg(test)]
+mod bodies;
