@@ -16,6 +16,8 @@ enum Content {
     Ramp,
     Extremes,
     Noise,
+    /// Four flat rows, and black below them.
+    BlackBelow,
 }
 
 /// A picture's size, its content, and the precincts and bytes of a slice.
@@ -38,7 +40,7 @@ fn picture(width: u32, height: u32, content: Content, hsl: u16, share: u32) -> C
     }
 }
 
-fn cases() -> [Case; 10] {
+fn cases() -> [Case; 12] {
     [
         picture(32, 4, Content::Flat, 4, 400),
         picture(32, 4, Content::Ramp, 4, 400),
@@ -48,9 +50,11 @@ fn cases() -> [Case; 10] {
         picture(35, 7, Content::Noise, 3, 4000),
         picture(34, 7, Content::Extremes, 1, 4000),
         picture(36, 6, Content::Flat, 5, 4000),
-        // refused: the first slice, and a later one
+        // over their share: the first slice; the second alone; the second and the third
         picture(37, 6, Content::Noise, 4, 64),
         picture(35, 5, Content::Ramp, 4, 64),
+        picture(32, 8, Content::BlackBelow, 4, 64),
+        picture(32, 12, Content::BlackBelow, 4, 64),
     ]
 }
 
@@ -89,6 +93,7 @@ fn sample(content: Content, row: u32, column: u32, noise: u32) -> u8 {
         Content::Ramp => ((row % 256 * 7 + column % 256 * 3) % 256) as u8,
         Content::Extremes => { if row % 2 == column / 3 % 2 { 0 } else { 255 } }
         Content::Noise => (noise / 65536 % 256) as u8,
+        Content::BlackBelow => { if row < 4 { 128 } else { 0 } }
     }
 }
 
