@@ -14,10 +14,10 @@ pub record AreBlank (s : Split) (n : ℕ) (planes : List (List (List ℤ))) : Ty
   pub sizes : (k : ℕ) → k < n → HasBandSize s planes k
   pub zeros : (k row column : ℕ) → plane_of (get_or planes k []) row column ≡ pos 0
 
-abbrev blank : ℕ → ℕ → List (List ℤ)
+abbrev pub blank : ℕ → ℕ → List (List ℤ)
 blank width height = replicate height (replicate width (pos 0))
 
-blank_size : (width height : ℕ) → HasSize width height (blank width height)
+pub blank_size : (width height : ℕ) → HasSize width height (blank width height)
 blank_size width height = record {
   wide = λ row inside. ap length (get_or-replicate height row (replicate width (pos 0)) [] (omega (arith, inside, length-replicate height (replicate width (pos 0))))) ∙ length-replicate width (pos 0);
   high = length-replicate height (replicate width (pos 0));
@@ -33,7 +33,7 @@ row_zero width column =
       | inr past ↦ get_or_past (replicate width (pos 0)) column (pos 0) (omega (arith, past, length-replicate width (pos 0)))
     ]
 
-blank_zero : (width height row column : ℕ) → plane_of (blank width height) row column ≡ pos 0
+pub blank_zero : (width height row column : ℕ) → plane_of (blank width height) row column ≡ pos 0
 blank_zero width height row column =
     elim (cases_lt row height) [
       | inl inside ↦ ap (λ r. entries_of r column) (get_or-replicate height row (replicate width (pos 0)) [] inside) ∙ row_zero width column

@@ -1,49 +1,24 @@
 -- A plane is joined level by level.
-use Rattle.std.proofs.Common.{◌≡◌, ℕ, zero, suc, ◌+◌, ◌-◌, ◌*◌, ◌/◌, ◌%◌, ◌^◌, ◌<◌, ◌≤◌, min, List, [], length, get_or, ℤ, refl, ap, sym, subst, ◌∙◌, arith, inl, inr, Bool, true, false, nat_lt}
+use Rattle.std.proofs.Common.{◌≡◌, ℕ, zero, suc, ◌+◌, ◌-◌, ◌*◌, ◌/◌, ◌%◌, ◌^◌, ◌<◌, ◌≤◌, min, List, [], get_or, ℤ, refl, ap, sym, subst, ◌∙◌, arith, inl, inr, Bool, true, false, nat_lt}
 use Rattle.std.specs.Prelude.{if◌then◌else◌}
 use Rattle.std.proofs.Math.Nat.{pow-suc}
 use Rattle.std.proofs.lemmas.Bool.{cases_eq, cases_lt, lt-ltb, le-ltb, ltb-true, ltb-false}
 use Rattle.xs_layout.specs.Geometry.{BandType, ll, hl, lh, hh}
-use Rattle.xs_signal.specs.Lines.{IsBelow, AllBelow, entries_of, column_of}
+use Rattle.xs_signal.specs.Lines.{IsBelow, AllBelow, column_of}
 use Rattle.xs_signal.specs.Wavelet.{Split, Bands, band_plane, low_count, high_count, low_count_at, inverse_line, rows_joined, columns_joined, joined, restored, inverse_plane}
 use Rattle.xs_signal.specs.Stripe.{IsSplit, rows_at}
 use Rattle.xs_wave.specs.Within.{SameWithin, SameBandsWithin}
 use Rattle.xs_signal.proofs.LineLaws.{at_even, at_odd, even_below, odd_below}
-use Rattle.xs_wave.proofs.WithinLaws.{transforms_within, rows_deep, columns_joined_within, step_within}
+use Rattle.xs_wave.proofs.WithinLaws.{transforms_within, rows_deep, rows_kept, inverse_within, step_within}
 use Rattle.xs_wave.specs.Planes.{plane_of, HasSize, IsSmall}
-use Rattle.xs_wave.specs.Rows.{by_turns}
+use Rattle.xs_wave.specs.Corners.{drawn, rows_by, part_at}
 use Rattle.xs_wave.specs.Bands.{IsComponent, type_at, columns_in, rows_in, HasBandSize, ShowsBand, AreBandPlanes, ShowBands, first_number, bands_in}
-use Rattle.xs_wave.specs.Steps.{AreRowsJoined, IsLevelJoined, half_reach, steps_to, IsJoinedTo}
+use Rattle.xs_wave.specs.Steps.{four_joined, IsLevelJoined, half_reach, steps_to, IsJoinedTo}
 use Rattle.xs_wave.proofs.Shown.{below_more}
 use Rattle.xs_wave.proofs.Small.{plane_small}
 use Rattle.xs_wave.proofs.Splits.{same_trans, high_columns, low_columns, rows_wide}
-use Rattle.xs_wave.proofs.Turns.{turns_wide, length_turns, turns_even, turns_odd}
+use Rattle.xs_wave.proofs.Corners.{drawn_size, drawn_same, rows_by_one}
 use Rattle.xs_wave.proofs.Types.{first_type, wide_type, deep_type, first_next, room_wide, room_deep, all_counted}
-
--- ---- even and odd rows by turns
-
-pub turns_size : (width height : ℕ) (even odd : List (List ℤ)) → HasSize width (low_count height) even → HasSize width (high_count height) odd → HasSize width height (by_turns even odd)
-turns_size width height even odd evens odds = record {
-  wide = turns_wide width even odd evens.wide odds.wide;
-  high = omega (arith, length_turns even odd (omega (arith, evens.high, odds.high)), evens.high, odds.high);
-}
-
-pub turns_shown : (width height : ℕ) (even odd : List (List ℤ)) (f : ℕ → ℕ → ℤ) → HasSize width (low_count height) even → HasSize width (high_count height) odd
-    → ((row column : ℕ) → row < length even → column < width → plane_of even row column ≡ f (2 * row) column)
-    → ((row column : ℕ) → row < length odd → column < width → plane_of odd row column ≡ f (2 * row + 1) column)
-    → SameWithin width height (plane_of (by_turns even odd)) f
-turns_shown width height even odd f evens odds lows highs row column inside within =
-    let h = row / 2 in
-    let most : length even ≤ length odd + 1 = omega (arith, evens.high, odds.high) in
-    let least : length odd ≤ length even = omega (arith, evens.high, odds.high) in
-    elim (cases_eq (row % 2) 0) [
-      | inl e ↦
-          let place : row ≡ 2 * h = omega (arith, e) in
-          ap (λ r. plane_of (by_turns even odd) r column) place ∙ ap (λ r. entries_of r column) (turns_even even odd h most) ∙ lows h column (omega (arith, place, inside, evens.high)) within ∙ sym (ap (λ r. f r column) place)
-      | inr ne ↦
-          let place : row ≡ 2 * h + 1 = omega (arith, ne) in
-          ap (λ r. plane_of (by_turns even odd) r column) place ∙ ap (λ r. entries_of r column) (turns_odd even odd h least most) ∙ highs h column (omega (arith, place, inside, odds.high)) within ∙ sym (ap (λ r. f r column) place)
-    ]
 
 -- ---- small numbers
 
@@ -101,32 +76,83 @@ abbrev stepped : Split → Bands → ℕ → (ℕ → ℕ → ℤ) → Bool → 
 stepped s b level p deep =
     if deep then columns_joined s level (rows_joined s level p (b.hl (level + 1))) (rows_joined s level (b.lh (level + 1)) (b.hh (level + 1))) else rows_joined s level p (b.hl (level + 1))
 
-pub across_joined : (s : Split) (level : ℕ) (p : ℕ → ℕ → ℤ) (planes : List (List (List ℤ))) (rows : List (List ℤ)) → s.down ≤ level
-    → AreRowsJoined (low_count_at s.width level) (rows_at s level) p (plane_of (get_or planes (first_number s (level + 1)) [])) rows → IsLevelJoined s level p planes rows
-across_joined s level p planes rows more done = record {
-  size = done.size;
-  same = subst (λ t. SameWithin (low_count_at s.width level) (rows_at s level) (plane_of rows) (stepped s (bands_in s planes) level p t)) (sym (le-ltb level s.down more)) done.same;
-}
+pub across_joined : (s : Split) (level : ℕ) (p q : ℕ → ℕ → ℤ) (planes : List (List (List ℤ))) → s.down ≤ level
+    → SameWithin (low_count_at s.width level) (rows_at s level) q (λ row. inverse_line (low_count_at s.width level) (p row) (plane_of (get_or planes (first_number s (level + 1)) []) row))
+    → IsLevelJoined s level p planes (drawn (low_count_at s.width level) (rows_at s level) q)
+across_joined s level p q planes more same =
+    let w = low_count_at s.width level in
+    let h = rows_at s level in
+    record {
+      size = drawn_size w h q;
+      same = same_trans w h _ _ _ (drawn_same w h q) (subst (λ t. SameWithin w h q (stepped s (bands_in s planes) level p t)) (sym (le-ltb level s.down more)) same);
+    }
 
-pub both_joined : (s : Split) (level : ℕ) (p : ℕ → ℕ → ℤ) (planes : List (List (List ℤ))) (even odd rows : List (List ℤ)) → IsSplit s → level < s.down
-    → AreRowsJoined (low_count_at s.width level) (low_count (low_count_at s.height level)) p (plane_of (get_or planes (first_number s (level + 1)) [])) even
-    → AreRowsJoined (low_count_at s.width level) (high_count (low_count_at s.height level)) (plane_of (get_or planes (first_number s (level + 1) + 1) [])) (plane_of (get_or planes (first_number s (level + 1) + 2) [])) odd
-    → HasSize (low_count_at s.width level) (low_count_at s.height level) rows
-    → SameWithin (low_count_at s.width level) (low_count_at s.height level) (plane_of rows) (columns_joined s level (plane_of even) (plane_of odd)) → IsLevelJoined s level p planes rows
-both_joined s level p planes even odd rows split less upper lower size same =
+pub four_within : (width height : ℕ) (p r a b c : ℕ → ℕ → ℤ) → 2 ≤ width → 2 ≤ height → SameWithin (low_count width) (low_count height) p r → SameWithin width height (four_joined width height p a b c) (four_joined width height r a b c)
+four_within width height p r a b c two_columns two_rows same row column inside within =
+    inverse_within height (λ k. inverse_line width (p k) (a k) column) (λ k. inverse_line width (r k) (a k) column) (λ k. inverse_line width (b k) (c k) column) (λ k. inverse_line width (b k) (c k) column) two_rows
+    (λ k less. inverse_within width (p k) (r k) (a k) (a k) two_columns (λ j below. same k j less below) (λ j below. refl) column within) (λ k less. refl) row inside
+
+pub both_joined : (s : Split) (level : ℕ) (p q : ℕ → ℕ → ℤ) (planes : List (List (List ℤ))) → level < s.down
+    → SameWithin (low_count_at s.width level) (low_count_at s.height level) q
+    (four_joined (low_count_at s.width level) (low_count_at s.height level) p (plane_of (get_or planes (first_number s (level + 1)) [])) (plane_of (get_or planes (first_number s (level + 1) + 1) []))
+    (plane_of (get_or planes (first_number s (level + 1) + 2) [])))
+    → IsLevelJoined s level p planes (drawn (low_count_at s.width level) (rows_at s level) q)
+both_joined s level p q planes less same =
+    let w = low_count_at s.width level in
+    let h = rows_at s level in
+    let tall = rows_deep s level (omega (arith, less)) in
+    let all : SameWithin w h q (stepped s (bands_in s planes) level p true) = subst (λ k. SameWithin w k q (stepped s (bands_in s planes) level p true)) (sym tall) same in
+    record {
+      size = drawn_size w h q;
+      same = same_trans w h _ _ _ (drawn_same w h q) (subst (λ t. SameWithin w h q (stepped s (bands_in s planes) level p t)) (sym (lt-ltb level s.down less)) all);
+    }
+
+-- the same in the upper left of a plane
+pub across_rejoined : (s : Split) (level width height : ℕ) (old new high : List (List ℤ)) (planes : List (List (List ℤ))) → IsSplit s → s.down ≤ level → level < s.across
+    → width ≡ low_count_at s.width level → height ≡ rows_at s level → high ≡ get_or planes (first_number s (level + 1)) []
+    → SameWithin width height (rows_by 1 (plane_of new)) (λ row. inverse_line width (plane_of old row) (plane_of high row))
+    → IsLevelJoined s level (plane_of (part_at s (suc level) old)) planes (part_at s level new)
+across_rejoined s level width height old new high planes split more inside columns tall there same =
+    let w = low_count_at s.width level in
+    let h = rows_at s level in
+    let p = plane_of (part_at s (suc level) old) in
+    let hl = plane_of (get_or planes (first_number s (level + 1)) []) in
+    let kept = rows_kept s level more in
+    let here : SameWithin w h (rows_by 1 (plane_of new)) (λ row. inverse_line w (plane_of old row) (hl row)) =
+    subst (λ x. SameWithin w h (rows_by 1 (plane_of new)) (λ row. inverse_line w (plane_of old row) (plane_of x row))) there
+    (subst (λ k. SameWithin k h (rows_by 1 (plane_of new)) (λ row. inverse_line k (plane_of old row) (plane_of high row))) columns
+    (subst (λ k. SameWithin width k (rows_by 1 (plane_of new)) (λ row. inverse_line width (plane_of old row) (plane_of high row))) tall same)) in
+    across_joined s level p (plane_of new) planes more
+    (λ row column below within.
+    sym (rows_by_one w h (plane_of new) row column below within) ∙ here row column below within
+    ∙ inverse_within w (plane_of old row) (p row) (hl row) (hl row) (split.wide level inside)
+    (λ j less. sym (drawn_same (low_count w) (rows_at s (suc level)) (plane_of old) row j (omega (arith, below, kept)) less)) (λ j less. refl) column within)
+
+pub both_rejoined : (s : Split) (level width height : ℕ) (old new a b c : List (List ℤ)) (planes : List (List (List ℤ))) → IsSplit s → level < s.down
+    → width ≡ low_count_at s.width level → height ≡ rows_at s level → a ≡ get_or planes (first_number s (level + 1)) [] → b ≡ get_or planes (first_number s (level + 1) + 1) []
+    → c ≡ get_or planes (first_number s (level + 1) + 2) [] → SameWithin width height (plane_of new) (four_joined width height (plane_of old) (plane_of a) (plane_of b) (plane_of c))
+    → IsLevelJoined s level (plane_of (part_at s (suc level) old)) planes (part_at s level new)
+both_rejoined s level width height old new a b c planes split less columns tall first second third same =
     let w = low_count_at s.width level in
     let h = low_count_at s.height level in
-    let b = bands_in s planes in
-    let top = rows_joined s level p (b.hl (level + 1)) in
-    let rest = rows_joined s level (b.lh (level + 1)) (b.hh (level + 1)) in
-    let tall = rows_deep s level (omega (arith, less)) in
-    let both = columns_joined_within s level w (plane_of even) top (plane_of odd) rest (split.high level less) upper.same lower.same in
-    let all : SameWithin w h (plane_of rows) (columns_joined s level top rest) = same_trans w h _ _ _ same both in
-    record {
-      size = subst (λ k. HasSize w k rows) (sym tall) size;
-      same = subst (λ k. SameWithin w k (plane_of rows) (joined s b level p)) (sym tall)
-          (subst (λ t. SameWithin w h (plane_of rows) (stepped s b level p t)) (sym (lt-ltb level s.down less)) all);
-    }
+    let f = first_number s (level + 1) in
+    let deep = split.deep in
+    let p = plane_of (part_at s (suc level) old) in
+    let rows = rows_deep s level (omega (arith, less)) in
+    let next = rows_deep s (suc level) less in
+    let x = get_or planes f [] in
+    let y = get_or planes (f + 1) [] in
+    let z = get_or planes (f + 2) [] in
+    let old_p = plane_of old in
+    let q = plane_of new in
+    let sized : SameWithin w h q (four_joined w h old_p (plane_of a) (plane_of b) (plane_of c)) =
+    subst (λ k. SameWithin k h q (four_joined k h old_p (plane_of a) (plane_of b) (plane_of c))) columns (subst (λ k. SameWithin width k q (four_joined width k old_p (plane_of a) (plane_of b) (plane_of c))) (tall ∙ rows) same) in
+    let here : SameWithin w h q (four_joined w h old_p (plane_of x) (plane_of y) (plane_of z)) =
+    subst (λ r. SameWithin w h q (four_joined w h old_p (plane_of x) (plane_of y) (plane_of r))) third
+    (subst (λ r. SameWithin w h q (four_joined w h old_p (plane_of x) (plane_of r) (plane_of c))) second (subst (λ r. SameWithin w h q (four_joined w h old_p (plane_of r) (plane_of b) (plane_of c))) first sized)) in
+    let source : SameWithin (low_count w) (low_count h) old_p p =
+    λ row column inside within. sym (drawn_same (low_count w) (rows_at s (suc level)) old_p row column (omega (arith, inside, next)) within) in
+    both_joined s level p q planes less (same_trans w h _ _ _ here (four_within w h old_p p (plane_of x) (plane_of y) (plane_of z) (split.wide level (omega (arith, less, deep))) (split.high level less) source))
 
 joined_low : (s : Split) (level steps : ℕ) (p : ℕ → ℕ → ℤ) (planes : List (List (List ℤ))) (deep : Bool) → steps ≤ 30 → ArePlanesLow planes → IsLow (2 * half_reach steps) p
     → IsLow (2 * half_reach (if deep then suc (suc steps) else suc steps)) (stepped s (bands_in s planes) level p deep)
@@ -295,9 +321,3 @@ hh_both s planes level deep are less =
     let number : f ≡ first_number s (suc level) + 2 = ap (λ k. k + 2) (first_next s level) in
     size_as s planes f (hh (suc level) (suc level)) (high_count (low_count_at s.width level)) (high_count (low_count_at s.height level)) (ap (type_at s) number ∙ deep_type s level 2 deep less (omega arith))
     (high_columns s.width level) (high_columns s.height level) (are.sizes f (omega (arith, number, room_deep s level deep less)))
-
--- joined rows of small planes are small
-pub rows_small : (width height : ℕ) (p q : ℕ → ℕ → ℤ) (rows : List (List ℤ)) → IsLow (2 ^ 48) p → IsLow (2 ^ 48) q → AreRowsJoined width height p q rows → IsSmall (2 ^ 50) rows
-rows_small width height p q rows lp lq done =
-    plane_small (5 * 2 ^ 47) (2 ^ 50) width height rows (λ row. inverse_line width (p row) (q row)) (omega arith) (omega arith) done.size done.same
-    (λ row column. inverse_below (2 ^ 47) width (p row) (q row) (lp row) (lq row) column)

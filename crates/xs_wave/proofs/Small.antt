@@ -9,7 +9,7 @@ use Rattle.xs_wave.specs.Planes.{plane_of, HasSize, IsSmall}
 use Rattle.xs_wave.proofs.Shown.{below_more}
 use Rattle.xs_wave.proofs.Values.{below_same}
 
-zero_below : (b : ℕ) (z : ℤ) → 0 < b → z ≡ pos 0 → IsBelow b z
+pub zero_below : (b : ℕ) (z : ℤ) → 0 < b → z ≡ pos 0 → IsBelow b z
 zero_below b z some none = record { least = omega (arith, ints, none, some); most = omega (arith, ints, none, some) }
 
 pub plane_small : (b c width height : ℕ) (rows : List (List ℤ)) (f : ℕ → ℕ → ℤ) → 0 < c → b ≤ c → HasSize width height rows → SameWithin width height (plane_of rows) f

@@ -1,18 +1,21 @@
 -- A plane is split level by level.
-use Rattle.std.proofs.Common.{◌≡◌, ℕ, suc, ◌+◌, ◌<◌, ◌≤◌, min, List, [], length, length-set, get_or, get_or-set_other, ℤ, refl, ap, sym, subst, ◌∙◌, arith, inl, inr}
+use Rattle.std.proofs.Common.{◌≡◌, ℕ, suc, ◌+◌, ◌*◌, ◌<◌, ◌≤◌, min, List, [], length, length-set, get_or, get_or-set_other, ℤ, refl, ap, sym, subst, ◌∙◌, arith, inl, inr}
 use Rattle.std.specs.Prelude.{if◌then◌else◌}
 use Rattle.std.proofs.Math.ListN.{set}
 use Rattle.std.proofs.lemmas.Bool.{cases_eq, lt-ltb, le-ltb}
 use Rattle.std.proofs.lemmas.Grind.{get_or-set_at}
 use Rattle.xs_layout.specs.Geometry.{BandType, hl, lh, hh, low_size, high_size}
-use Rattle.xs_signal.specs.Wavelet.{Split, Bands, band_plane, low_count, high_count, low_count_at, rows_low, rows_high, columns_low, columns_high, columns_kept}
+use Rattle.xs_signal.specs.Lines.{column_of}
+use Rattle.xs_signal.specs.Wavelet.{Split, Bands, band_plane, low_count, high_count, low_count_at, low_of, high_of, rows_low, rows_high, columns_low, columns_kept}
 use Rattle.xs_signal.specs.Stripe.{IsSplit, rows_at}
 use Rattle.xs_wave.specs.Within.{SameWithin}
 use Rattle.xs_signal.proofs.Sizes.{low_sizes, high_sizes}
-use Rattle.xs_wave.proofs.WithinLaws.{rows_deep, rows_kept, rows_low_within, rows_high_within}
+use Rattle.xs_wave.proofs.WithinLaws.{rows_deep, rows_kept, low_within, high_within}
 use Rattle.xs_wave.specs.Planes.{plane_of, HasSize}
 use Rattle.xs_wave.specs.Bands.{type_at, columns_in, rows_in, HasBandSize, ShowsBand, first_number, level_bands}
-use Rattle.xs_wave.specs.Steps.{AreRowsSplit, AreColumnsSplit, IsLevelSplit}
+use Rattle.xs_wave.specs.Corners.{drawn, rows_by, part_at}
+use Rattle.xs_wave.specs.Steps.{AreQuarters, IsLevelSplit}
+use Rattle.xs_wave.proofs.Corners.{drawn_size, drawn_same}
 use Rattle.xs_wave.proofs.Types.{wide_type, deep_type, next_wide, next_deep}
 
 -- ---- sizes
@@ -49,6 +52,13 @@ kept_all s level p more = ap (λ t. if t then columns_low s level p else p) (le-
 kept_low : (s : Split) (level : ℕ) (p : ℕ → ℕ → ℤ) → level < s.down → columns_kept s level p ≡ columns_low s level p
 kept_low s level p less = ap (λ t. if t then columns_low s level p else p) (lt-ltb level s.down less)
 
+-- the rows of a plane of this size are split
+pub record AreRowsSplit (width height : ℕ) (p : ℕ → ℕ → ℤ) (lows highs : List (List ℤ)) : Type 0 where
+  pub low_size : HasSize (low_count width) height lows
+  pub high_size : HasSize (high_count width) height highs
+  pub low : SameWithin (low_count width) height (plane_of lows) (λ row. low_of width (p row))
+  pub high : SameWithin (high_count width) height (plane_of highs) (λ row. high_of width (p row))
+
 pub level_across : (s : Split) (level : ℕ) (p : ℕ → ℕ → ℤ) (low high : List (List ℤ)) (planes : List (List (List ℤ))) → s.down ≤ level → level < s.across → first_number s (suc level) < length planes
     → AreRowsSplit (low_count_at s.width level) (rows_at s level) p low high → IsLevelSplit s level p low planes (set planes (first_number s (suc level)) high)
 level_across s level p low high planes more inside room split =
@@ -76,44 +86,36 @@ level_across s level p low high planes more inside room split =
       others = λ number from. get_or-set_other planes f number high [] (λ e. omega (arith, e, from, next));
     }
 
+-- the same in the upper left of a plane
+pub across_split : (s : Split) (level width height : ℕ) (old new high : List (List ℤ)) (planes : List (List (List ℤ))) → IsSplit s → s.down ≤ level → level < s.across → first_number s (suc level) < length planes
+    → width ≡ low_count_at s.width level → height ≡ rows_at s level
+    → SameWithin (low_count width) height (plane_of new) (λ row. low_of width (rows_by 1 (plane_of old) row))
+    → SameWithin (high_count width) height (plane_of high) (λ row. high_of width (rows_by 1 (plane_of old) row)) → HasSize (high_count width) height high
+    → IsLevelSplit s level (plane_of (part_at s level old)) (part_at s (suc level) new) planes (set planes (first_number s (suc level)) high)
+across_split s level width height old new high planes split more inside room columns tall lows highs size =
+    let w = low_count_at s.width level in
+    let h = rows_at s level in
+    let p = plane_of (part_at s level old) in
+    let kept = rows_kept s level more in
+    let source : (row j : ℕ) → row < h → j < w → rows_by 1 (plane_of old) row j ≡ p row j =
+    λ row j below less. (let same : 1 * row ≡ row = omega arith in ap (λ k. plane_of old k j) same) ∙ sym (drawn_same w h (plane_of old) row j below less) in
+    let low_here : SameWithin (low_count w) h (plane_of new) (λ row. low_of w (rows_by 1 (plane_of old) row)) =
+    subst (λ k. SameWithin (low_count k) h (plane_of new) (λ row. low_of k (rows_by 1 (plane_of old) row))) columns (subst (λ k. SameWithin (low_count width) k (plane_of new) (λ row. low_of width (rows_by 1 (plane_of old) row))) tall lows) in
+    let high_here : SameWithin (high_count w) h (plane_of high) (λ row. high_of w (rows_by 1 (plane_of old) row)) =
+    subst (λ k. SameWithin (high_count k) h (plane_of high) (λ row. high_of k (rows_by 1 (plane_of old) row))) columns (subst (λ k. SameWithin (high_count width) k (plane_of high) (λ row. high_of width (rows_by 1 (plane_of old) row))) tall highs) in
+    let next = part_at s (suc level) new in
+    level_across s level p next high planes more inside room record {
+      low_size = subst (λ k. HasSize (low_count w) k next) kept (drawn_size (low_count w) (rows_at s (suc level)) (plane_of new));
+      high_size = subst (λ k. HasSize (high_count k) h high) columns (subst (λ k. HasSize (high_count width) k high) tall size);
+      low = λ row column below within. drawn_same (low_count w) (rows_at s (suc level)) (plane_of new) row column (omega (arith, below, kept)) within ∙ low_here row column below within
+          ∙ low_within w (rows_by 1 (plane_of old) row) (p row) (split.wide level inside) (λ j less. source row j below less) column within;
+      high = λ row column below within. high_here row column below within ∙ high_within w (rows_by 1 (plane_of old) row) (p row) (λ j less. source row j below less) column within;
+    }
+
 -- ---- a level that is split both ways
 
 pub same_trans : (width height : ℕ) (p q r : ℕ → ℕ → ℤ) → SameWithin width height p q → SameWithin width height q r → SameWithin width height p r
 same_trans width height p q r a b row column inside within = a row column inside within ∙ b row column inside within
-
-pub record IsQuartered (s : Split) (level : ℕ) (p : ℕ → ℕ → ℤ) (a b c d : List (List ℤ)) : Type 0 where
-  pub ll_size : HasSize (low_count (low_count_at s.width level)) (low_count (low_count_at s.height level)) a
-  pub hl_size : HasSize (high_count (low_count_at s.width level)) (low_count (low_count_at s.height level)) b
-  pub lh_size : HasSize (low_count (low_count_at s.width level)) (high_count (low_count_at s.height level)) c
-  pub hh_size : HasSize (high_count (low_count_at s.width level)) (high_count (low_count_at s.height level)) d
-  pub ll : SameWithin (low_count (low_count_at s.width level)) (low_count (low_count_at s.height level)) (plane_of a) (rows_low s level (columns_kept s level p))
-  pub hl : SameWithin (high_count (low_count_at s.width level)) (low_count (low_count_at s.height level)) (plane_of b) (rows_high s level (columns_kept s level p))
-  pub lh : SameWithin (low_count (low_count_at s.width level)) (high_count (low_count_at s.height level)) (plane_of c) (rows_low s level (columns_high s level p))
-  pub hh : SameWithin (high_count (low_count_at s.width level)) (high_count (low_count_at s.height level)) (plane_of d) (rows_high s level (columns_high s level p))
-
-quartered : (s : Split) (level : ℕ) (p : ℕ → ℕ → ℤ) (top bottom a b c d : List (List ℤ)) → IsSplit s → level < s.down
-    → AreColumnsSplit (low_count_at s.width level) (low_count_at s.height level) p top bottom
-    → AreRowsSplit (low_count_at s.width level) (low_count (low_count_at s.height level)) (plane_of top) a b
-    → AreRowsSplit (low_count_at s.width level) (high_count (low_count_at s.height level)) (plane_of bottom) c d
-    → IsQuartered s level p a b c d
-quartered s level p top bottom a b c d split less columns upper lower =
-    let w = low_count_at s.width level in
-    let h = low_count_at s.height level in
-    let deep = split.deep in
-    let two = split.wide level (omega (arith, less, deep)) in
-    let kept = kept_low s level p less in
-    let even : SameWithin w (low_count h) (plane_of top) (columns_kept s level p) = subst (λ q. SameWithin w (low_count h) (plane_of top) q) (sym kept) columns.low in
-    let odd : SameWithin w (high_count h) (plane_of bottom) (columns_high s level p) = columns.high in
-    record {
-      ll_size = upper.low_size;
-      hl_size = upper.high_size;
-      lh_size = lower.low_size;
-      hh_size = lower.high_size;
-      ll = same_trans _ _ _ _ _ upper.low (rows_low_within s level (low_count h) (plane_of top) (columns_kept s level p) two even);
-      hl = same_trans _ _ _ _ _ upper.high (rows_high_within s level (low_count h) (plane_of top) (columns_kept s level p) even);
-      lh = same_trans _ _ _ _ _ lower.low (rows_low_within s level (high_count h) (plane_of bottom) (columns_high s level p) two odd);
-      hh = same_trans _ _ _ _ _ lower.high (rows_high_within s level (high_count h) (plane_of bottom) (columns_high s level p) odd);
-    }
 
 -- three planes in a row
 abbrev pub three_set : List (List (List ℤ)) → ℕ → List (List ℤ) → List (List ℤ) → List (List ℤ) → List (List (List ℤ))
@@ -152,38 +154,75 @@ each_of_three P f number a b c from to =
       ]
     ]
 
-pub level_both : (s : Split) (level : ℕ) (p : ℕ → ℕ → ℤ) (top bottom a b c d : List (List ℤ)) (planes : List (List (List ℤ))) → IsSplit s → level < s.down → first_number s (suc level) + 2 < length planes
-    → AreColumnsSplit (low_count_at s.width level) (low_count_at s.height level) p top bottom
-    → AreRowsSplit (low_count_at s.width level) (low_count (low_count_at s.height level)) (plane_of top) a b
-    → AreRowsSplit (low_count_at s.width level) (high_count (low_count_at s.height level)) (plane_of bottom) c d
-    → IsLevelSplit s level p a planes (three_set planes (first_number s (suc level)) b c d)
-level_both s level p top bottom a b c d planes split less room columns upper lower =
+-- what is split of a plane is split of one that is the same within its size
+pub quarters_within : (width height : ℕ) (p r q : ℕ → ℕ → ℤ) (b c d : List (List ℤ)) → 2 ≤ width → 2 ≤ height → SameWithin width height p r → AreQuarters width height p q b c d → AreQuarters width height r q b c d
+quarters_within width height p r q b c d two_columns two_rows same quarters =
+    let low : (row column : ℕ) → row < low_count height → column < width → low_of height (column_of p column) row ≡ low_of height (column_of r column) row =
+    λ row column inside within. low_within height (column_of p column) (column_of r column) two_rows (λ k less. same k column less within) row inside in
+    let high : (row column : ℕ) → row < high_count height → column < width → high_of height (column_of p column) row ≡ high_of height (column_of r column) row =
+    λ row column inside within. high_within height (column_of p column) (column_of r column) (λ k less. same k column less within) row inside in
+    record {
+      hl_size = quarters.hl_size;
+      lh_size = quarters.lh_size;
+      hh_size = quarters.hh_size;
+      ll = λ row column inside within. quarters.ll row column inside within
+          ∙ low_within width (λ k. low_of height (column_of p k) row) (λ k. low_of height (column_of r k) row) two_columns (λ k less. low row k inside less) column within;
+      hl = λ row column inside within. quarters.hl row column inside within
+          ∙ high_within width (λ k. low_of height (column_of p k) row) (λ k. low_of height (column_of r k) row) (λ k less. low row k inside less) column within;
+      lh = λ row column inside within. quarters.lh row column inside within
+          ∙ low_within width (λ k. high_of height (column_of p k) row) (λ k. high_of height (column_of r k) row) two_columns (λ k less. high row k inside less) column within;
+      hh = λ row column inside within. quarters.hh row column inside within
+          ∙ high_within width (λ k. high_of height (column_of p k) row) (λ k. high_of height (column_of r k) row) (λ k less. high row k inside less) column within;
+    }
+
+pub level_both : (s : Split) (level : ℕ) (p q : ℕ → ℕ → ℤ) (b c d : List (List ℤ)) (planes : List (List (List ℤ))) → IsSplit s → level < s.down → first_number s (suc level) + 2 < length planes
+    → AreQuarters (low_count_at s.width level) (low_count_at s.height level) p q b c d
+    → IsLevelSplit s level p (drawn (low_count_at s.width (suc level)) (rows_at s (suc level)) q) planes (three_set planes (first_number s (suc level)) b c d)
+level_both s level p q b c d planes split less room quarters =
     let w = low_count_at s.width level in
     let h = low_count_at s.height level in
     let f = first_number s (suc level) in
-    let q = quartered s level p top bottom a b c d split less columns upper lower in
     let next = next_deep s level less in
     let deep = split.deep in
-    let tall = rows_deep s (suc level) (omega (arith, less)) in
+    let tall : rows_at s (suc level) ≡ low_count h = rows_deep s (suc level) (omega (arith, less)) in
+    let kept = kept_low s level p less in
     let none : f + 0 ≡ f = omega arith in
     let first_type : type_at s f ≡ hl (suc level) (suc level) = sym (ap (type_at s) none) ∙ deep_type s level 0 deep less (omega arith) in
     let second_type : type_at s (f + 1) ≡ lh (suc level) (suc level) = deep_type s level 1 deep less (omega arith) in
     let third_type : type_at s (f + 2) ≡ hh (suc level) (suc level) = deep_type s level 2 deep less (omega arith) in
     let new = three_set planes f b c d in
     let bands = level_bands s level p in
+    let low_same : SameWithin (low_count w) (low_count h) q (rows_low s level (columns_kept s level p)) = subst (λ x. SameWithin (low_count w) (low_count h) q (rows_low s level x)) (sym kept) quarters.ll in
+    let hl_same : SameWithin (high_count w) (low_count h) (plane_of b) (rows_high s level (columns_kept s level p)) = subst (λ x. SameWithin (high_count w) (low_count h) (plane_of b) (rows_high s level x)) (sym kept) quarters.hl in
     record {
-      size = subst (λ k. HasSize (low_count w) k a) (sym tall) q.ll_size;
-      low = subst (λ k. SameWithin (low_count w) k (plane_of a) (rows_low s level (columns_kept s level p))) (sym tall) q.ll;
+      size = drawn_size (low_count w) (rows_at s (suc level)) q;
+      low = same_trans (low_count w) (rows_at s (suc level)) _ _ _ (drawn_same (low_count w) (rows_at s (suc level)) q)
+          (subst (λ k. SameWithin (low_count w) k q (rows_low s level (columns_kept s level p))) (sym tall) low_same);
       as_many = length-three planes f b c d;
       sizes = λ number from to. each_of_three (HasBandSize s new) f number
-          (band_size s new f (hl (suc level) (suc level)) b (high_count w) (low_count h) first_type (three_first planes f b c d room) (high_columns s.width level) (low_columns s.height (suc level)) q.hl_size)
-          (band_size s new (f + 1) (lh (suc level) (suc level)) c (low_count w) (high_count h) second_type (three_second planes f b c d room) (low_columns s.width (suc level)) (high_columns s.height level) q.lh_size)
-          (band_size s new (f + 2) (hh (suc level) (suc level)) d (high_count w) (high_count h) third_type (three_third planes f b c d room) (high_columns s.width level) (high_columns s.height level) q.hh_size)
+          (band_size s new f (hl (suc level) (suc level)) b (high_count w) (low_count h) first_type (three_first planes f b c d room) (high_columns s.width level) (low_columns s.height (suc level)) quarters.hl_size)
+          (band_size s new (f + 1) (lh (suc level) (suc level)) c (low_count w) (high_count h) second_type (three_second planes f b c d room) (low_columns s.width (suc level)) (high_columns s.height level) quarters.lh_size)
+          (band_size s new (f + 2) (hh (suc level) (suc level)) d (high_count w) (high_count h) third_type (three_third planes f b c d room) (high_columns s.width level) (high_columns s.height level) quarters.hh_size)
           from (omega (arith, to, next));
       shown = λ number from to. each_of_three (ShowsBand s new bands) f number
-          (band_shown s new bands f (hl (suc level) (suc level)) b (high_count w) (low_count h) first_type (three_first planes f b c d room) (high_columns s.width level) (low_columns s.height (suc level)) q.hl)
-          (band_shown s new bands (f + 1) (lh (suc level) (suc level)) c (low_count w) (high_count h) second_type (three_second planes f b c d room) (low_columns s.width (suc level)) (high_columns s.height level) q.lh)
-          (band_shown s new bands (f + 2) (hh (suc level) (suc level)) d (high_count w) (high_count h) third_type (three_third planes f b c d room) (high_columns s.width level) (high_columns s.height level) q.hh)
+          (band_shown s new bands f (hl (suc level) (suc level)) b (high_count w) (low_count h) first_type (three_first planes f b c d room) (high_columns s.width level) (low_columns s.height (suc level)) hl_same)
+          (band_shown s new bands (f + 1) (lh (suc level) (suc level)) c (low_count w) (high_count h) second_type (three_second planes f b c d room) (low_columns s.width (suc level)) (high_columns s.height level) quarters.lh)
+          (band_shown s new bands (f + 2) (hh (suc level) (suc level)) d (high_count w) (high_count h) third_type (three_third planes f b c d room) (high_columns s.width level) (high_columns s.height level) quarters.hh)
           from (omega (arith, to, next));
       others = λ number from. three_other planes f number b c d (omega (arith, from, next));
     }
+
+-- the same in the upper left of a plane
+pub both_split : (s : Split) (level width height : ℕ) (old new b c d : List (List ℤ)) (planes : List (List (List ℤ))) → IsSplit s → level < s.down → first_number s (suc level) + 2 < length planes
+    → width ≡ low_count_at s.width level → height ≡ rows_at s level → AreQuarters width height (plane_of old) (plane_of new) b c d
+    → IsLevelSplit s level (plane_of (part_at s level old)) (part_at s (suc level) new) planes (three_set planes (first_number s (suc level)) b c d)
+both_split s level width height old new b c d planes split less room columns tall quarters =
+    let w = low_count_at s.width level in
+    let h = low_count_at s.height level in
+    let deep = split.deep in
+    let p = plane_of (part_at s level old) in
+    let rows = rows_deep s level (omega (arith, less)) in
+    let here : AreQuarters w h (plane_of old) (plane_of new) b c d =
+    subst (λ k. AreQuarters k h (plane_of old) (plane_of new) b c d) columns (subst (λ k. AreQuarters width k (plane_of old) (plane_of new) b c d) (tall ∙ rows) quarters) in
+    let same : SameWithin w h (plane_of old) p = λ row column inside within. sym (drawn_same w (rows_at s level) (plane_of old) row column (omega (arith, inside, rows)) within) in
+    level_both s level p (plane_of new) b c d planes split less room (quarters_within w h (plane_of old) p (plane_of new) b c d (split.wide level (omega (arith, less, deep))) (split.high level less) same here)

@@ -7,19 +7,16 @@ use Rattle.xs_wave.specs.Within.{SameWithin}
 use Rattle.xs_wave.specs.Planes.{plane_of, HasSize, IsSmall}
 use Rattle.xs_wave.specs.Bands.{band_count, HasBandSize, ShowsBand, first_number, level_bands, bands_in}
 
--- the rows of a plane of this size are split
-pub record AreRowsSplit (width height : ℕ) (p : ℕ → ℕ → ℤ) (lows highs : List (List ℤ)) : Type 0 where
-  pub low_size : HasSize (low_count width) height lows
-  pub high_size : HasSize (high_count width) height highs
-  pub low : SameWithin (low_count width) height (plane_of lows) (λ row. low_of width (p row))
-  pub high : SameWithin (high_count width) height (plane_of highs) (λ row. high_of width (p row))
-
--- its columns are split
-pub record AreColumnsSplit (width height : ℕ) (p : ℕ → ℕ → ℤ) (lows highs : List (List ℤ)) : Type 0 where
-  pub low_size : HasSize width (low_count height) lows
-  pub high_size : HasSize width (high_count height) highs
-  pub low : SameWithin width (low_count height) (plane_of lows) (λ row column. low_of height (column_of p column) row)
-  pub high : SameWithin width (high_count height) (plane_of highs) (λ row column. high_of height (column_of p column) row)
+-- A plane p of this size is split both ways, columns before rows: what is low both ways is left in q, and the others are in
+-- planes of their own.
+pub record AreQuarters (width height : ℕ) (p q : ℕ → ℕ → ℤ) (hls lhs hhs : List (List ℤ)) : Type 0 where
+  pub hl_size : HasSize (high_count width) (low_count height) hls
+  pub lh_size : HasSize (low_count width) (high_count height) lhs
+  pub hh_size : HasSize (high_count width) (high_count height) hhs
+  pub ll : SameWithin (low_count width) (low_count height) q (λ row. low_of width (λ column. low_of height (column_of p column) row))
+  pub hl : SameWithin (high_count width) (low_count height) (plane_of hls) (λ row. high_of width (λ column. low_of height (column_of p column) row))
+  pub lh : SameWithin (low_count width) (high_count height) (plane_of lhs) (λ row. low_of width (λ column. high_of height (column_of p column) row))
+  pub hh : SameWithin (high_count width) (high_count height) (plane_of hhs) (λ row. high_of width (λ column. high_of height (column_of p column) row))
 
 -- A part p is split at a level: the next part is its low part, and the planes of the level's bands are among the new ones.
 pub record IsLevelSplit (s : Split) (level : ℕ) (p : ℕ → ℕ → ℤ) (next : List (List ℤ)) (old new : List (List (List ℤ))) : Type 0 where
@@ -39,10 +36,10 @@ pub record IsSplitTo (s : Split) (p : ℕ → ℕ → ℤ) (level : ℕ) (part :
   pub sizes : (number : ℕ) → first_number s level ≤ number → number < band_count s → HasBandSize s planes number
   pub shown : (number : ℕ) → first_number s level ≤ number → number < band_count s → ShowsBand s planes (bands_of s p) number
 
--- the rows of a plane of this size are joined
-pub record AreRowsJoined (width height : ℕ) (p q : ℕ → ℕ → ℤ) (rows : List (List ℤ)) : Type 0 where
-  pub size : HasSize width height rows
-  pub same : SameWithin width height (plane_of rows) (λ row. inverse_line width (p row) (q row))
+-- the plane of this size with these four parts: rows are joined before columns
+abbrev pub four_joined : ℕ → ℕ → (ℕ → ℕ → ℤ) → (ℕ → ℕ → ℤ) → (ℕ → ℕ → ℤ) → (ℕ → ℕ → ℤ) → ℕ → ℕ → ℤ
+four_joined width height ll hl lh hh row column =
+    inverse_line height (λ k. inverse_line width (ll k) (hl k) column) (λ k. inverse_line width (lh k) (hh k) column) row
 
 -- a part p and the bands of a level among the planes are joined to the part of the level before
 pub record IsLevelJoined (s : Split) (level : ℕ) (p : ℕ → ℕ → ℤ) (planes : List (List (List ℤ))) (rows : List (List ℤ)) : Type 0 where

@@ -9,6 +9,7 @@ mod bands;
 mod columns;
 mod levels;
 mod lifting;
+mod lifts;
 mod lines;
 mod planes;
 mod rows;

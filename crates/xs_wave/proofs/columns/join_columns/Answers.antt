@@ -1,33 +1,43 @@
-use Rattle.std.proofs.Common.{◌+◌, ◌*◌, ◌^◌, ◌<◌, ◌+ℤ◌, arith, ap, sym, ◌∙◌}
-use Rattle.xs_signal.specs.Lines.{column_of}
-use Rattle.xs_signal.specs.Wavelet.{low_count, even_of}
-use Rattle.xs_signal.proofs.LineLaws.{inverse_even, inverse_odd, even_below, predicted_same}
+use Rattle.std.proofs.Common.{◌≡◌, ◌+◌, ◌*◌, ◌/◌, ◌%◌, ◌^◌, ◌<◌, ◌+ℤ◌, arith, ap, sym, subst, ◌∙◌, inl, inr}
+use Rattle.std.proofs.lemmas.Bool.{cases_eq}
+use Rattle.xs_signal.specs.Lines.{column_of, entries_of}
+use Rattle.xs_signal.specs.Wavelet.{even_of, predicted, inverse_line}
+use Rattle.xs_signal.proofs.LineLaws.{inverse_even, inverse_odd, predicted_same}
 use Rattle.xs_wave.specs.Planes.{plane_of}
-use Rattle.xs_wave.proofs.Small.{plane_small}
+use Rattle.xs_wave.specs.Corners.{even_rows, odd_rows}
+use Rattle.xs_wave.proofs.Bounds.{even_small}
+use Rattle.xs_wave.proofs.Values.{below_same}
 use Rattle.xs_wave.proofs.columns.join_columns.Goals as goal
 
-pub raise_rows-requires-clause-small_even : goal.raise_rows-requires-clause-small_even
-raise_rows-requires-clause-small_even c =
-    let n = c.args.height in
-    let low = plane_of c.args.low.now in
-    let high = plane_of c.args.high.now in
-    plane_small (3 * 2 ^ 49) (2 ^ 51) c.args.width (low_count n) c.lower_rows.new.low (λ row column. even_of n (column_of low column) (column_of high column) row) (omega arith) (omega arith) c.lower_rows.ensures.size
-    c.lower_rows.ensures.rows
-    (λ row column. even_below (2 ^ 49) n (column_of low column) (column_of high column) (λ k. c.requires.small_low k column) (λ k. c.requires.small_high k column) row)
+pub join_odd_rows-requires-clause-small_even : goal.join_odd_rows-requires-clause-small_even
+join_odd_rows-requires-clause-small_even c row inside column within =
+    let p = plane_of c.args.plane.now in
+    below_same (2 * 2 ^ 50) _ _ (c.join_even_rows.ensures.even row column inside within)
+    (even_small (2 ^ 50) c.args.height (column_of (even_rows p) column) (column_of (odd_rows p) column) (omega arith) c.requires.two (λ k less. c.requires.small (2 * k) (omega (arith, less)) column within)
+    (λ k less. c.requires.small (2 * k + 1) (omega (arith, less)) column within) row inside)
 
-pub returns-clause-evens : goal.returns-clause-evens
-returns-clause-evens c row column inside within =
-    let size = c.lower_rows.ensures.size in
-    c.lower_rows.ensures.rows row column (omega (arith, inside, size.high)) within
-    ∙ sym (inverse_even c.args.height (column_of (plane_of c.args.low.now) column) (column_of (plane_of c.args.high.now) column) row)
-
-pub returns-clause-odds : goal.returns-clause-odds
-returns-clause-odds c row column inside within =
+pub returns-clause-joined : goal.returns-clause-joined
+returns-clause-joined c row column inside within =
     let n = c.args.height in
-    let low = column_of (plane_of c.args.low.now) column in
-    let high = column_of (plane_of c.args.high.now) column in
-    let even = column_of (plane_of c.lower_rows.new.low) column in
-    let size = c.raise_rows.ensures.size in
-    let below : 2 * row + 1 < n = omega (arith, inside, size.high) in
-    let same = predicted_same n row even (even_of n low high) below (λ j less. c.lower_rows.ensures.rows j column less within) in
-    c.raise_rows.ensures.rows row column (omega (arith, inside, size.high)) within ∙ ap (λ z. high row +ℤ z) same ∙ sym (inverse_odd n low high row)
+    let p = plane_of c.args.plane.now in
+    let low = column_of (even_rows p) column in
+    let high = column_of (odd_rows p) column in
+    let first = plane_of c.join_even_rows.new.plane in
+    let even = column_of (even_rows first) column in
+    let new = plane_of c.join_odd_rows.new.plane in
+    let k = row / 2 in
+    elim (cases_eq (row % 2) 0) [
+      | inl e ↦
+          let place : 2 * k ≡ row = omega (arith, e) in
+          let there : new (2 * k) column ≡ inverse_line n low high (2 * k) =
+          ap (λ r. entries_of r column) (c.join_odd_rows.ensures.even k) ∙ c.join_even_rows.ensures.even k column (omega (arith, place, inside)) within ∙ sym (inverse_even n low high k) in
+          subst (λ r. new r column ≡ inverse_line n low high r) place there
+      | inr ne ↦
+          let place : 2 * k + 1 ≡ row = omega (arith, ne) in
+          let below : 2 * k + 1 < n = omega (arith, place, inside) in
+          let same = predicted_same n k even (even_of n low high) below (λ j less. c.join_even_rows.ensures.even j column less within) in
+          let there : new (2 * k + 1) column ≡ inverse_line n low high (2 * k + 1) =
+          c.join_odd_rows.ensures.high k column (omega (arith, below)) within ∙ ap (λ z. z +ℤ predicted n even k) (ap (λ r. entries_of r column) (c.join_even_rows.ensures.odd k)) ∙ ap (λ z. high k +ℤ z) same
+          ∙ sym (inverse_odd n low high k) in
+          subst (λ r. new r column ≡ inverse_line n low high r) place there
+    ]

@@ -1,11 +1,14 @@
-use Rattle.std.proofs.Common.{◌≡◌, ℕ, ◌<◌, ◌*◌, ◌+ℤ◌}
+use Rattle.std.proofs.Common.{◌≡◌, ℕ, ◌+◌, ◌*◌, ◌<◌, ◌≤◌, get_or, [], ◌+ℤ◌}
 use Rattle.xs_signal.specs.Lines.{column_of}
-use Rattle.xs_signal.specs.Wavelet.{low_count, updated}
-use Rattle.xs_wave.specs.Planes.{plane_of, HasSize}
+use Rattle.xs_signal.specs.Wavelet.{updated}
+use Rattle.xs_wave.specs.Planes.{plane_of}
+use Rattle.xs_wave.specs.Corners.{SameShape, even_rows, odd_rows}
 use Rattle.xs_wave.proofs.columns.split_even_rows.Given as goal
 
 abbrev pub invariant-loop-at : goal.invariant-loop-at
 invariant-loop-at l = record {
-  rows : (row column : ℕ) → row < l.at → column < l.width → plane_of l.low row column ≡ plane_of l.plane (2 * row) column +ℤ updated l.height (column_of (plane_of l.high) column) row;
-  size : HasSize l.width (low_count l.height) l.low;
+  done : (row column : ℕ) → row < l.at → column < l.width → even_rows (plane_of l.plane) row column ≡ even_rows (plane_of l.fn.plane) row column +ℤ updated l.height (column_of (odd_rows (plane_of l.fn.plane)) column) row;
+  odd : (row : ℕ) → get_or l.plane (2 * row + 1) [] ≡ get_or l.fn.plane (2 * row + 1) [];
+  rest : (row : ℕ) → l.at ≤ row → get_or l.plane (2 * row) [] ≡ get_or l.fn.plane (2 * row) [];
+  shape : SameShape l.fn.plane l.plane;
 }

@@ -1,11 +1,14 @@
-use Rattle.std.proofs.Common.{◌≡◌, ℕ, ◌<◌}
+use Rattle.std.proofs.Common.{◌≡◌, ℕ, ◌+◌, ◌*◌, ◌<◌, ◌≤◌, get_or, []}
 use Rattle.xs_signal.specs.Lines.{column_of}
-use Rattle.xs_signal.specs.Wavelet.{high_count, high_of}
-use Rattle.xs_wave.specs.Planes.{plane_of, HasSize}
+use Rattle.xs_signal.specs.Wavelet.{high_of}
+use Rattle.xs_wave.specs.Planes.{plane_of}
+use Rattle.xs_wave.specs.Corners.{SameShape, odd_rows}
 use Rattle.xs_wave.proofs.columns.split_odd_rows.Given as goal
 
 abbrev pub invariant-loop-at : goal.invariant-loop-at
 invariant-loop-at l = record {
-  rows : (row column : ℕ) → row < l.at → column < l.width → plane_of l.high row column ≡ high_of l.height (column_of (plane_of l.plane) column) row;
-  size : HasSize l.width (high_count l.height) l.high;
+  done : (row column : ℕ) → row < l.at → column < l.width → odd_rows (plane_of l.plane) row column ≡ high_of l.height (column_of (plane_of l.fn.plane) column) row;
+  even : (row : ℕ) → get_or l.plane (2 * row) [] ≡ get_or l.fn.plane (2 * row) [];
+  rest : (row : ℕ) → l.at ≤ row → get_or l.plane (2 * row + 1) [] ≡ get_or l.fn.plane (2 * row + 1) [];
+  shape : SameShape l.fn.plane l.plane;
 }

@@ -1,0 +1,14 @@
+use Rattle.std.proofs.Common.{◌≡◌, ℕ, ◌+◌, ◌*◌, ◌<◌, ◌≤◌, get_or, []}
+use Rattle.xs_signal.specs.Lines.{column_of}
+use Rattle.xs_signal.specs.Wavelet.{even_of}
+use Rattle.xs_wave.specs.Planes.{plane_of}
+use Rattle.xs_wave.specs.Corners.{SameShape, even_rows, odd_rows}
+use Rattle.xs_wave.proofs.columns.join_even_rows.Given as goal
+
+abbrev pub invariant-loop-at : goal.invariant-loop-at
+invariant-loop-at l = record {
+  done : (row column : ℕ) → row < l.at → column < l.width → even_rows (plane_of l.plane) row column ≡ even_of l.height (column_of (even_rows (plane_of l.fn.plane)) column) (column_of (odd_rows (plane_of l.fn.plane)) column) row;
+  odd : (row : ℕ) → get_or l.plane (2 * row + 1) [] ≡ get_or l.fn.plane (2 * row + 1) [];
+  rest : (row : ℕ) → l.at ≤ row → get_or l.plane (2 * row) [] ≡ get_or l.fn.plane (2 * row) [];
+  shape : SameShape l.fn.plane l.plane;
+}
