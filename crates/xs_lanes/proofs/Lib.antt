@@ -1,0 +1,12 @@
+pub mod Lists
+pub mod Held
+pub mod Shown
+pub mod Knows
+pub mod Steps
+pub mod Takes
+pub mod Events
+pub mod Homes
+pub mod Shares
+pub mod Tells
+pub mod Named
+pub mod Exactly

@@ -1,0 +1,62 @@
+-- Each kind of step is the event of its name.
+use Rattle.std.proofs.Common.{◌≡◌, ◌≢◌, ℕ, ◌<◌, List, [], ◌∷◌, ◌++◌, length, length-set, get_or, get_or-set_other, set, sum_by, Option, sym, refl, ap, ◌∙◌, subst, arith}
+use Rattle.std.proofs.lemmas.List.Sums.{sum_by-set, sum_by_push, sum_by-append}
+use mathlib.Core.Option as maybe
+use Rattle.xs_lane_core.specs.Places.{has}
+use Rattle.xs_lane_core.specs.Machine.{Placing, Actor, Machine, lane_at, actor_at, nobody, halves, copied, joined}
+use Rattle.xs_lane_core.specs.Steps.{Answer, looks, splits, joins}
+use Rattle.xs_lane_core.specs.Sound.{drawn, in_lane, IsSound}
+use Rattle.xs_lane_core.proofs.Cases.{looks_case, splits_case, joins_case}
+use Rattle.xs_lane_core.proofs.Keeps.{take_keeps, put_keeps, home_keeps, look_keeps, split_keeps, join_keeps}
+use Rattle.xs_lane_core.proofs.Turns.{got_same}
+use Rattle.xs_lanes.specs.Filing.{word_at, Shows}
+use Rattle.xs_lanes.specs.Events.{ShowsSound, TakesAsEvent, ComesHomeAsEvent, LooksAsEvent, SplitsAsEvent, JoinsAsEvent}
+use Rattle.xs_lanes.proofs.Shown.{shows_acted}
+use Rattle.xs_lanes.proofs.Held.{holds_another}
+use Rattle.xs_lanes.proofs.Events.{takes_free_is, takes_held_is, held_homes_is}
+use Rattle.xs_lanes.proofs.Takes.{take_shows, held_shows}
+use Rattle.xs_lanes.proofs.Homes.{home_shows, held_taken}
+use Rattle.xs_lanes.proofs.Shares.{drawn_split, drawn_joined}
+
+module _ {T : Type 0} (k : Placing T) where
+  shown_by : (words : List ℕ) (homes : List (maybe.Option (Option T))) (r q : Machine T × Answer T) → r ≡ q → Shows k words homes q.0 → Shows k words homes r.0
+  shown_by words homes r q e h = subst (λ (r : Machine T × Answer T). Shows k words homes r.0) (sym e) h
+
+  pub takes_as_event : TakesAsEvent k
+  takes_as_event words homes m a x s may = let word = s.shows.word (k.lane x) 0 may.lane (omega arith) in let p : ℕ = k.place x in (
+    (λ e. let empty : has (lane_at m (k.lane x)).taken p ≡ 0 = ap (λ u. has u p) (sym word) ∙ e in record {
+      shows = shown_by _ _ _ _ (takes_free_is k m a x may.actor may.lane may.place may.free empty) (take_shows k words homes m a x s.shows s.sound may.actor may.lane may.place empty);
+      sound = take_keeps k m a x s.sound;
+    }),
+    λ e. let held : has (lane_at m (k.lane x)).taken p ≡ 1 = ap (λ u. has u p) (sym word) ∙ e in record {
+      shows = shown_by _ _ _ _ (takes_held_is k m a x may.actor may.lane may.place may.free held) (held_shows k words homes m a x s.shows may.actor may.lane held);
+      sound = take_keeps k m a x s.sound;
+    },
+  )
+
+  pub comes_home_as_event : ComesHomeAsEvent k
+  comes_home_as_event words homes_at m a u x s lt lt' low stand same_lane same_place = let held = holds_another k m a u x s.sound lt stand same_lane same_place in (
+    held,
+    record {
+      shows = shown_by _ _ _ _ (held_homes_is k m a x lt lt' low) (home_shows k words homes_at m a x s.shows s.sound lt lt' low (held_taken k m a u x s.sound stand same_lane same_place));
+      sound = home_keeps k _ a (put_keeps k _ a held);
+    },
+  )
+
+  pub looks_as_event : LooksAsEvent k
+  looks_as_event words homes m a l s = record {
+    shows = looks_case (λ r. Shows k words homes r.0) m a l s.shows (λ lt lt' free. shows_acted k words homes m _ s.shows (λ j. got_same (in_lane k j) m a _ lt refl));
+    sound = look_keeps k m a l s.sound;
+  }
+
+  pub splits_as_event : SplitsAsEvent k
+  splits_as_event words homes m a s = record {
+    shows = splits_case (λ r. Shows k words homes r.0) m a s.shows (λ lt free. shows_acted k words homes m _ s.shows (drawn_split k m a lt));
+    sound = split_keeps k m a s.sound;
+  }
+
+  pub joins_as_event : JoinsAsEvent k
+  joins_as_event words homes m a b s = record {
+    shows = joins_case (λ r. Shows k words homes r.0) m a b s.shows (λ lt lt' ne free free'. shows_acted k words homes m _ s.shows (drawn_joined k m a b lt lt' ne));
+    sound = join_keeps k m a b s.sound;
+  }

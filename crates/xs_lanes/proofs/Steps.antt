@@ -1,0 +1,61 @@
+-- Each step on a word keeps the rule of the table.
+use Rattle.std.proofs.Common.{◌≡◌, ◌≢◌, ℕ, zero, suc, ◌+◌, ◌*◌, ◌^◌, ◌<◌, ◌≤◌, Bool, true, false, if◌then◌else◌, nat_eq, List, [], ◌∷◌, ◌++◌, length, get_or, set, sum_by, Option, Some, None, bit_or, sym, refl, ap, ◌∙◌, subst, arith, max}
+use Rattle.std.proofs.lemmas.Nat.Bits.{bit_at_or, bit_at-lt, same_from_bits}
+use mathlib.Core.Option.{some, none, some-injective}
+use mathlib.Core.Option as maybe
+use mathlib.Core.Logic.{dite}
+use native.Mathlib.Decide.{ℕ_discrete}
+use lib.ListN.{get_elem?}
+use Rattle.atomic_table.specs.Table.{State, Me, keeps, takes, gives, step, Allows}
+use Rattle.xs_lane_core.specs.Places.{places, has, only, every_place, with_places}
+use Rattle.xs_lane_core.specs.declared.values.Stand.{Stand}
+use Rattle.xs_lane_core.specs.declared.values.Stand.TheVariants.{Idle, Saw, Holding, Laid, Pulling, Spent}
+use Rattle.xs_lane_core.specs.Machine.{Placing, Lane, Actor, Machine, lane_in, lane_at, actor_at, value_at, nobody, acted, changed, sees}
+use Rattle.xs_lane_core.specs.Steps.{is_free}
+use Rattle.xs_lane_core.specs.Sound.{over_got, drawn, in_lane, IsSound}
+use Rattle.xs_lane_core.proofs.Free.{back_sound, looks_sound}
+use Rattle.xs_lane_core.proofs.Taking.{takes_sound}
+use Rattle.xs_lane_core.proofs.Turns.{got_same}
+use Rattle.xs_lane_core.proofs.Placed.{only_here, only_other}
+use Rattle.xs_lanes.specs.Filing.{lane_word, word_at, slot_at, ShowsSlots, Shows, Filed}
+use Rattle.xs_lanes.specs.Knowing.{IsAlone, IsChoice, FindsTaken, FindsHome}
+use Rattle.xs_lanes.specs.Plays.{stand_seen, first_item, took, looked}
+use Rattle.xs_lanes.proofs.Lists.{at_view, set_same}
+use Rattle.xs_lanes.proofs.Shown.{slots_after, shows_changed, shows_acted}
+use Rattle.xs_lanes.proofs.Knows.{finds_taken, finds_choice, finds_home}
+
+-- who has looked is free
+pub seen_free : (T : Type 0) (l mask : ℕ) → is_free {V = T} (stand_seen l mask) ≡ true
+seen_free T l mask = by_test (nat_eq mask every_place)
+  where
+    by_test : (b : Bool) → is_free {V = T} (if b then Saw l else Idle) ≡ true
+    by_test true = refl
+    by_test false = refl
+
+module _ {T : Type 0} (k : Placing T) where
+  -- values lie at places of their lane alone
+  pub narrow : (m : Machine T) → IsSound k m → (l p : ℕ) (x : T) → value_at m l p ≡ Some x → p < places
+  narrow m s l p x e = (s.one_holder.own l p x (s.map_follows.lying l p x e)).2
+
+  look_at : (n id : ℕ) (me : Me (Option T) (Actor T)) (l : ℕ) → is_free me.0.stand ≡ true → 64 * l < n → Allows (Filed k) n id me (word_at l 1) (λ y. y) (looked k (step n (word_at l 1) 0 0 none) me)
+  look_at n id me l free inside s r wide at _ = let m : Machine T = record { lanes = r.lanes; actors = s.views } in let here = at_view s.views id me.0 nobody at in let lt : id < length s.views = here.0 in
+      let mine : actor_at m id ≡ me.0 = here.1 in let count = r.shows.slots.count in let lt' : l < length r.lanes = omega arith in
+      let free' : is_free (actor_at m id).stand ≡ true = ap (λ (v : Actor T). is_free v.stand) mine ∙ free in
+      let h : ℕ = (lane_at m l).home in let found : get_or s.words (word_at l 1) 0 ≡ h = r.shows.word l 1 lt' (omega arith) in
+      let q : Actor T = sees (stand_seen l h) l h (actor_at m id) in (
+        q,
+        keeps,
+        tt,
+        record {
+          lanes = r.lanes;
+          shows = subst (λ ws. Shows k ws s.homes (acted m id q)) (sym (set_same s.words (word_at l 1) 0)) (shows_acted k s.words s.homes m (set s.views id q) r.shows (λ j. got_same (in_lane k j) m id q lt refl));
+          sound = looks_sound k m id l r.sound lt free';
+        },
+        λ l' e. subst (λ j. FindsHome k me.0 j (get_or s.words (word_at l 1) 0) × (IsAlone me.0 → IsChoice k me.0) × (q ≡ sees (stand_seen j (get_or s.words (word_at l 1) 0)) j (get_or s.words (word_at l 1) 0) me.0) × (me.1 ≡ me.1)) (let w : l ≡ l' = omega arith in w)
+            (subst (λ u. FindsHome k me.0 l u × (IsAlone me.0 → IsChoice k me.0) × (q ≡ sees (stand_seen l u) l u me.0) × (me.1 ≡ me.1)) (sym found)
+            (subst (λ (v : Actor T). FindsHome k v l h × (IsAlone v → IsChoice k v) × (q ≡ sees (stand_seen l h) l h v) × (me.1 ≡ me.1)) mine
+            (finds_home k m id l r.sound lt, finds_choice k m id r.sound lt free', refl, refl))),
+      )
+
+  pub looks : (n id : ℕ) (me : Me (Option T) (Actor T)) (l w : ℕ) → is_free me.0.stand ≡ true → 64 * l < n → w ≡ word_at l 1 → Allows (Filed k) n id me w (λ y. y) (looked k (step n w 0 0 none) me)
+  looks n id me l w free inside e = subst (λ w. Allows (Filed k) n id me w (λ y. y) (looked k (step n w 0 0 none) me)) (sym e) (look_at n id me l free inside)

@@ -1,0 +1,15 @@
+//! Lanes of 64 places each, which threads file values into. No call waits: each step is one atomic operation.
+#![tactic(auto)]
+
+mod lanes;
+mod laws;
+mod put;
+mod table;
+
+pub use lanes::Put;
+pub use laws::each_step_is_an_event;
+pub use table::{Known, Lanes, Pass};
+pub use xs_io::Placed;
+
+#[cfg(test)]
+mod tests;
