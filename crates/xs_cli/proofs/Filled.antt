@@ -1,9 +1,10 @@
 -- A picture of one component that is filled row by row.
-use Rattle.std.proofs.Common.{◌≡◌, ℕ, suc, ◌+◌, ◌-◌, ◌*◌, ◌≤◌, ◌<◌, List, ◌++◌, take, drop, length, replicate, sym, ap, subst, ◌∙◌, arith, append-nil, zero-add}
+use Rattle.std.proofs.Common.{◌≡◌, ℕ, suc, ◌+◌, ◌-◌, ◌*◌, ◌≤◌, ◌<◌, List, [], ◌∷◌, ◌++◌, refl, take, drop, length, replicate, sym, ap, subst, ◌∙◌, arith, append-nil, zero-add}
 use Rattle.std.proofs.Math.Seq.{take-append_seam, drop-append-add, take-add, take-length}
 use Rattle.std.proofs.Math.Nat.{mul_comm}
 use Rattle.std.proofs.lemmas.Nat.{mul-le}
 use Rattle.std.specs.Prelude.{sum_by}
+use Rattle.std.specs.List.{flat_map}
 use Rattle.std.proofs.lemmas.List.{drop-replicate, length-take-le, length-drop}
 use Rattle.xs_lists.specs.Spelling.{upto}
 use Rattle.xs_params.proofs.Areas.{first_is}
@@ -11,7 +12,7 @@ use Rattle.xs_layout.specs.declared.Shape.{Shape}
 use Rattle.xs_layout.specs.declared.Format.{Format}
 use Rattle.xs_layout.specs.declared.Format.TheVariants.{Mono}
 use Rattle.xs_layout.specs.Geometry.{component_width_of, components_of}
-use Rattle.xs_params.specs.Picture.{IsRow, Picture, raw_size, row_first, sample_count, sample_size, width_of, with_row}
+use Rattle.xs_params.specs.Picture.{IsPicture, IsRow, Picture, raw_bytes, raw_size, row_first, row_of, sample_bytes, sample_count, sample_size, width_of, with_row}
 
 -- the first samples, and zeros in the place of the others
 abbrev pub filled : List ℕ → ℕ → List ℕ
@@ -92,3 +93,28 @@ row_filled p shape row samples new mono same old row_is within =
     ∙ ap (λ l. take (row * shape.width) l ++ new ++ drop (row * shape.width + length new) l) old
     ∙ ap (λ l. take (row * shape.width) (filled samples (row * shape.width)) ++ l ++ drop (row * shape.width + length l) (filled samples (row * shape.width))) row_is
     ∙ filled_more samples (row * shape.width) shape.width within ∙ ap (filled samples) next
+
+-- samples of one byte are their bytes
+pub bytes_of_samples : (picture : Picture) → picture.shape.depth ≡ 8 → raw_bytes picture ≡ picture.samples
+bytes_of_samples picture depth = ap (λ d. flat_map (sample_bytes d) picture.samples) depth ∙ each picture.samples
+  where
+    each : (samples : List ℕ) → flat_map (sample_bytes 8) samples ≡ samples
+    each [] = refl
+    each (sample ∷ samples) = ap (λ rest. sample ∷ rest) (each samples)
+
+-- one row more
+pub rows_more : (picture : Picture) (row : ℕ) (bytes new : List ℕ) → picture.shape.format ≡ Mono → bytes ≡ take (row * picture.shape.width) picture.samples
+    → new ≡ row_of picture 0 row → bytes ++ new ≡ take ((row + 1) * picture.shape.width) picture.samples
+rows_more picture row bytes new mono old row_is =
+    let width = picture.shape.width in
+    let start : ℕ = row * width in
+    let next : start + width ≡ (row + 1) * width = grind arith in
+    let here : row_of picture 0 row ≡ take width (drop start picture.samples) =
+    ap (λ w. take w (drop (row_first picture.shape 0 row) picture.samples)) (mono_width picture.shape mono) ∙ ap (λ first. take width (drop first picture.samples)) (mono_first picture.shape row mono) in
+    ap (λ l. l ++ new) old ∙ ap (λ l. take start picture.samples ++ l) (row_is ∙ here) ∙ sym (take-add start width picture.samples) ∙ ap (λ n. take n picture.samples) next
+
+pub all_rows : (picture : Picture) (row : ℕ) → IsPicture picture → picture.shape.format ≡ Mono → row ≡ picture.shape.height → take (row * picture.shape.width) picture.samples ≡ picture.samples
+all_rows picture row whole mono last =
+    let size : length picture.samples ≡ picture.shape.width * picture.shape.height = whole.size ∙ mono_count picture.shape mono in
+    let count : row * picture.shape.width ≡ length picture.samples = ap (λ n. n * picture.shape.width) last ∙ grind (arith, size) in
+    ap (λ n. take n picture.samples) count ∙ take-length picture.samples

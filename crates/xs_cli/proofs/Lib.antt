@@ -3,3 +3,4 @@ mod Encodings
 mod Followed
 mod Runs
 mod Filled
+mod Decodings

@@ -6,18 +6,27 @@ use Rattle.std.proofs.KnownBytes.{Appends-nil, Keeps-refl}
 use Rattle.xs_params.specs.Picture.{raw_size, picture_of}
 use Rattle.xs_params.specs.Stream.{Stream}
 use Rattle.xs_faults.specs.declared.Budget.{Budget}
+use Rattle.xs_faults.specs.declared.PrecinctFault.{PrecinctFault}
+use Rattle.xs_faults.specs.declared.PrecinctFault.TheVariants as precinct_fault
+use Rattle.xs_faults.specs.declared.SliceFault.{SliceFault}
+use Rattle.xs_faults.specs.declared.SliceFault.TheVariants as slice_fault
 use Rattle.xs_rate.specs.Encoding.{encoding_of}
+use Rattle.xs_notes.specs.Lines.{NamesFault}
+use Rattle.xs_cli.specs.declared.stop.Damage.{Damage}
+use Rattle.xs_cli.specs.declared.stop.Damage.TheVariants as damage
 use Rattle.xs_cli.specs.declared.stop.Stop.{Stop}
 use Rattle.xs_cli.specs.declared.stop.Stop.TheVariants as stop
 use Rattle.xs_words.specs.declared.command.Refusal.{Refusal}
 use Rattle.xs_words.specs.declared.command.Refusal.TheVariants as refusal
 use Rattle.xs_words.specs.Refusal.{refusal_of}
-use Rattle.xs_words.specs.Command.{settings_of}
-use Rattle.xs_cli.specs.Answer.{Said, IsAnswer, codestream_of, encoded, outcome_of, read_fault_line, said_of, stop_line, stop_of, stop_status}
-use Rattle.xs_cli.specs.Ends.{Change, Ends, HasFailed, IsWriteStatus, Tells, change_of, ends_of}
-use Rattle.xs_cli.specs.Run.{HasAnswer, HasRefusals, HasStatusCause, IsBreak, IsComplete, IsEnding, IsInputFailure, IsRun, IsUnlessBroken, LeavesSource}
-use Rattle.xs_cli.specs.Steps.{IsFollowed, IsUnlessFailed}
-use Rattle.xs_cli.proofs.Followed.{outcome_refused}
+use Rattle.xs_words.specs.declared.command.Command.{Command}
+use Rattle.xs_words.specs.declared.command.Command.TheVariants.{Decode, Encode}
+use Rattle.xs_words.specs.Command.{command_of}
+use Rattle.xs_cli.specs.Answer.{IsOutcome, IsResult, IsResultUnless, codestream_of, encoded, read_fault_line, said_of, stop_line, stop_of, stop_status}
+use Rattle.xs_cli.specs.Decoding.{IsDamage, damage_note}
+use Rattle.xs_cli.specs.Ends.{Change, Ends, HasFailed, IsLeft, IsWriteStatus, Tells, change_of, ends_of}
+use Rattle.xs_cli.specs.Run.{HasAnswer, HasRefusals, HasStatusCause, HasStatusOfAnswer, IsBreak, IsComplete, IsEnding, IsInputFailure, IsRun, IsUnlessBroken, LeavesSource}
+use Rattle.xs_cli.specs.Steps.{IsFollowed, IsTold, IsUnlessFailed, NamesStop, most_wanted}
 
 -- Statuses
 
@@ -61,73 +70,63 @@ broken_output : (ends : Ends) (status : ℕ) → IsWriteStatus ends.output statu
 broken_output ends status (inl failed) = inl (failed.0, inl failed.1)
 broken_output ends status (inr memory) = inr memory
 
--- the codestream was given to the output, and the notes are as before
+-- the result was given to the output, and the notes are as before
 ending_by_output : (words : List (List ℕ)) (input : List ℕ) (source output : Change) (held : Option (List ℕ)) (faults : ℕ) (out : List ℕ) (status : ℕ)
-    → Tells output out 0 status → IsEnding words input (said_of (Ok out)) (ends_of source output (change_of held held faults faults)) status
-ending_by_output words input source output held faults out status (inl whole) = inl (record { answered = whole.1; output = whole.0; notes = Appends-nil held })
-ending_by_output words input source output held faults out status (inr cut) = inr (inr (record {
+    → IsOutcome words input (Ok out) → Tells output out 0 status → IsEnding words input (ends_of source output (change_of held held faults faults)) status
+ending_by_output words input source output held faults out status outcome (inl whole) = inl (record {
+  said = said_of (Ok out);
+  answer = (Ok out, outcome, refl);
+  answered = whole.1;
+  output = whole.0;
+  notes = Appends-nil held;
+})
+ending_by_output words input source output held faults out status outcome (inr cut) = inr (inr (inl (record {
   cause = broken_output (ends_of source output (change_of held held faults faults)) status cut.1;
-  stands = inl (record { output = cut.0; notes = (0, Appends-nil held) });
-}))
+  stands = inl (record { said = said_of (Ok out); answer = (Ok out, outcome, refl); output = cut.0; notes = (0, Appends-nil held) });
+})))
 
 -- the note was given, and the output is as before
 ending_by_note : (words : List (List ℕ)) (input : List ℕ) (source notes : Change) (held : Option (List ℕ)) (faults : ℕ) (why : Stop) (status : ℕ)
-    → Tells notes (stop_line why) (stop_status why) status → IsEnding words input (said_of (Err why)) (ends_of source (change_of held held faults faults) notes) status
-ending_by_note words input source notes held faults why status (inl whole) = inl (record { answered = whole.1; output = Appends-nil held; notes = whole.0 })
-ending_by_note words input source notes held faults why status (inr cut) = inr (inr (record {
+    → IsOutcome words input (Err why) → Tells notes (stop_line why) (stop_status why) status → IsEnding words input (ends_of source (change_of held held faults faults) notes) status
+ending_by_note words input source notes held faults why status outcome (inl whole) = inl (record {
+  said = said_of (Err why);
+  answer = (Err why, outcome, refl);
+  answered = whole.1;
+  output = Appends-nil held;
+  notes = whole.0;
+})
+ending_by_note words input source notes held faults why status outcome (inr cut) = inr (inr (inl (record {
   cause = broken_notes (ends_of source (change_of held held faults faults) notes) status cut.1;
-  stands = inl (record { output = (0, Appends-nil held); notes = cut.0 });
-}))
+  stands = inl (record { said = said_of (Err why); answer = (Err why, outcome, refl); output = (0, Appends-nil held); notes = cut.0 });
+})))
 
 -- the note on a read fault was given
-ending_by_fault : (words : List (List ℕ)) (input : List ℕ) (said : Said) (source output notes : Change) (status : ℕ) → IsInputFailure words input (ends_of source output notes)
-    → Tells notes read_fault_line 7 status → IsEnding words input said (ends_of source output notes) status
-ending_by_fault words input said source output notes status failure (inl whole) = inr (inl (record { seven = whole.1; failed = failure; notes = whole.0 }))
-ending_by_fault words input said source output notes status failure (inr cut) = inr (inr (record {
+ending_by_fault : (words : List (List ℕ)) (input : List ℕ) (source output notes : Change) (status : ℕ) → IsInputFailure words input (ends_of source output notes)
+    → Tells notes read_fault_line 7 status → IsEnding words input (ends_of source output notes) status
+ending_by_fault words input source output notes status failure (inl whole) = inr (inl (record { seven = whole.1; failed = failure; notes = whole.0 }))
+ending_by_fault words input source output notes status failure (inr cut) = inr (inr (inl (record {
   cause = broken_notes (ends_of source output notes) status cut.1;
   stands = inr (record { failed = failure; notes = cut.0 });
-}))
-
-took_none : (count : ℕ) → take {A = ℕ} count [] ≡ []
-took_none zero = refl
-took_none (suc count) = refl
-
--- memory was wanting, and nothing was told
-ending_by_memory : (words : List (List ℕ)) (input : List ℕ) (said : Said) (source notes : Change) (held : Option (List ℕ)) (faults : ℕ) (status : ℕ)
-    → Tells notes [] 9 status → IsEnding words input said (ends_of source (change_of held held faults faults) notes) status
-ending_by_memory words input said source notes held faults status told = inr (inr (record {
-  cause = cause told;
-  stands = inl (record { output = (0, Appends-nil held); notes = (0, nothing told) });
-}))
-  where
-    cause : Tells notes [] 9 status → IsBreak (ends_of source (change_of held held faults faults) notes) status
-    cause (inl whole) = inr whole.1
-    cause (inr cut) = broken_notes (ends_of source (change_of held held faults faults) notes) status cut.1
-
-    nothing : Tells notes [] 9 status → Appends notes.before notes.after []
-    nothing (inl whole) = whole.0
-    nothing (inr cut) = subst (λ (bytes : List ℕ). Appends notes.before notes.after bytes) (took_none cut.0.0) cut.0.1
+})))
 
 -- What holds besides
 
-settled : (words : List (List ℕ)) (input : List ℕ) (said : Said) (ends : Ends) (status : ℕ) → ¬ HasFailed ends.input → ¬ HasFailed ends.output → ¬ HasFailed ends.notes
-    → IsEnding words input said ends status → (status ≡ said.status) ⊎ (status ≡ 9)
-settled words input said ends status read output notes (inl finished) = inl finished.answered
-settled words input said ends status read output notes (inr (inl fault)) = absurd (read fault.failed.cause)
-settled words input said ends status read output notes (inr (inr cut)) = elim cut.cause [
+settled : (words : List (List ℕ)) (input : List ℕ) (ends : Ends) (status : ℕ) → ¬ HasFailed ends.input → ¬ HasFailed ends.output → ¬ HasFailed ends.notes
+    → IsEnding words input ends status → HasStatusOfAnswer words input status ⊎ (status ≡ 9)
+settled words input ends status read output notes (inl finished) = inl (finished.said, finished.answer, finished.answered)
+settled words input ends status read output notes (inr (inl fault)) = absurd (read fault.failed.cause)
+settled words input ends status read output notes (inr (inr (inl cut))) = elim cut.cause [
   | inl failed ↦ absurd (elim failed.1 [ inl out ↦ output out | inr told ↦ notes told ])
   | inr memory ↦ inr memory
 ]
+settled words input ends status read output notes (inr (inr (inr starved))) = inr starved.nine
 
 complete : (words : List (List ℕ)) (ends : Ends) (status : ℕ) → HasAnswer words ends status → IsComplete words ends status
 complete words ends status whole input told read output notes =
-    let same : whole.input ≡ input = told_input ends.input.before told whole.left in (
-      whole.said,
-      subst (λ i. IsAnswer words i whole.said) same whole.answer,
-      settled words whole.input whole.said ends status read output notes whole.ending,
-    )
+    let same : whole.input ≡ input = told_input ends.input.before told whole.left in
+    subst (λ i. HasStatusOfAnswer words i status ⊎ (status ≡ 9)) same (settled words whole.input ends status read output notes whole.ending)
   where
-    told_input : (before : Option (List ℕ)) → before ≡ Some input → IfSome before (λ bytes. bytes ≡ whole.input) → whole.input ≡ input
+    told_input : (before : Option (List ℕ)) → before ≡ Some input → IsLeft before whole.input → whole.input ≡ input
     told_input None e left = absurd (cc)
     told_input (Some bytes) e left = sym left ∙ cc
 
@@ -142,22 +141,20 @@ run_of words ends status headline cause refusals source = record {
 }
 
 -- an outcome that is no refusal of the words comes only where they are not refused
-not_refused : (words : List (List ℕ)) (input : List ℕ) (why : Refusal) (result : Result (List ℕ) Stop) → outcome_of words input ≡ result → ¬ (Err (stop_of why) ≡ result)
+not_refused : (words : List (List ℕ)) (input : List ℕ) (why : Refusal) (result : Result (List ℕ) Stop) → IsOutcome words input result → ¬ (Err (stop_of why) ≡ result)
     → ¬ (refusal_of words ≡ Some why)
-not_refused words input why result same unlike e = unlike (sym (outcome_refused words input why e) ∙ same)
+not_refused words input why result outcome unlike e = unlike (subst (λ (o : Option Refusal). IsResultUnless o (command_of words) input result) e outcome)
 
--- The codestream was made, and given to the output
-pub after_codestream : (words : List (List ℕ)) (source output : Change) (held : Option (List ℕ)) (faults : ℕ) (out : List ℕ) (status : ℕ) → IsFollowed words source (Ok out)
+-- The result was given to the output
+pub after_output : (words : List (List ℕ)) (source output : Change) (held : Option (List ℕ)) (faults : ℕ) (out : List ℕ) (status : ℕ) → IsFollowed words source (Ok out)
     → Tells output out 0 status → IsRun words (ends_of source output (change_of held held faults faults)) status
-after_codestream words source output held faults out status follow told =
+after_output words source output held faults out status follow told =
     let by = ended output out 0 status told in
     run_of words _ status
     (record {
       input = follow.input;
       left = follow.left;
-      said = said_of (Ok out);
-      answer = sym (ap said_of follow.outcome);
-      ending = ending_by_output words follow.input source output held faults out status told;
+      ending = ending_by_output words follow.input source output held faults out status follow.outcome told;
     })
     (record {
       read = λ e. absurd (never output 0 7 status (inr (omega arith)) (omega arith) by e);
@@ -170,7 +167,7 @@ after_codestream words source output held faults out status follow told =
       setting_only = λ e. absurd (never output 0 2 status (inr (omega arith)) (omega arith) by e);
       bad_setting = λ bad. absurd (not_refused words follow.input (refusal.Setting bad.0) (Ok out) follow.outcome (λ x. absurd (cc)) bad.1);
     })
-    (record { whole = λ _. follow.whole; kept = follow.kept })
+    (record { whole = λ _. follow.whole; most = follow.taken; kept = follow.kept })
 
 -- Stops
 
@@ -178,7 +175,10 @@ status_range : (why : Stop) → stop_status why ≤ 9
 status_range (stop.Words place) = omega arith
 status_range (stop.Setting setting) = omega arith
 status_range stop.InputForm = omega arith
+status_range stop.InputLimit = omega arith
+status_range (stop.InputCut place) = omega arith
 status_range (stop.Budget budget) = omega arith
+status_range (stop.Damaged damage) = omega arith
 status_range stop.ReadFault = omega arith
 status_range stop.Memory = omega arith
 
@@ -186,7 +186,10 @@ not_0 : (why : Stop) → ¬ (0 ≡ stop_status why)
 not_0 (stop.Words place) e = absurd (omega (arith, e))
 not_0 (stop.Setting setting) e = absurd (omega (arith, e))
 not_0 stop.InputForm e = absurd (omega (arith, e))
+not_0 stop.InputLimit e = absurd (omega (arith, e))
+not_0 (stop.InputCut place) e = absurd (omega (arith, e))
 not_0 (stop.Budget budget) e = absurd (omega (arith, e))
+not_0 (stop.Damaged damage) e = absurd (omega (arith, e))
 not_0 stop.ReadFault e = absurd (omega (arith, e))
 not_0 stop.Memory e = absurd (omega (arith, e))
 
@@ -194,25 +197,44 @@ not_8 : (why : Stop) → ¬ (8 ≡ stop_status why)
 not_8 (stop.Words place) e = absurd (omega (arith, e))
 not_8 (stop.Setting setting) e = absurd (omega (arith, e))
 not_8 stop.InputForm e = absurd (omega (arith, e))
+not_8 stop.InputLimit e = absurd (omega (arith, e))
+not_8 (stop.InputCut place) e = absurd (omega (arith, e))
 not_8 (stop.Budget budget) e = absurd (omega (arith, e))
+not_8 (stop.Damaged damage) e = absurd (omega (arith, e))
 not_8 stop.ReadFault e = absurd (omega (arith, e))
 not_8 stop.Memory e = absurd (omega (arith, e))
 
-read_cause : (why : Stop) (most : ℕ) (wanted : Result (List ℕ) Stop) (input : List ℕ) (source sink : Change) (status : ℕ) → IsUnlessFailed most wanted input source (Err why)
+-- how a stop was told, as a status
+told_as : (notes : Change) (why : Stop) (status : ℕ) → IsTold notes why status → Ended notes (stop_status why) status
+told_as notes (stop.Words place) status told = ended notes (stop_line (stop.Words place)) 1 status told
+told_as notes (stop.Setting setting) status told = ended notes (stop_line (stop.Setting setting)) 2 status told
+told_as notes stop.InputForm status told = ended notes (stop_line stop.InputForm) 3 status told
+told_as notes stop.InputLimit status told = ended notes (stop_line stop.InputLimit) 3 status told
+told_as notes (stop.InputCut place) status told = ended notes (stop_line (stop.InputCut place)) 3 status told
+told_as notes (stop.Budget budget) status told = ended notes (stop_line (stop.Budget budget)) 4 status told
+told_as notes (stop.Damaged damage) status told = ended notes (stop_line (stop.Damaged damage)) 6 status told
+told_as notes stop.ReadFault status told = ended notes (stop_line stop.ReadFault) 7 status told
+told_as notes stop.Memory status told = inl told.1
+
+read_cause : (why : Stop) (most : ℕ) (Wanted : Result (List ℕ) Stop → Type 0) (input : List ℕ) (source sink : Change) (status : ℕ) → IsUnlessFailed most Wanted input source (Err why)
     → Ended sink (stop_status why) status → status ≡ 7 → HasFailed source
-read_cause (stop.Words place) most wanted input source sink status outcome by e =
-    absurd (never sink 1 7 status (inr (omega arith)) (omega arith) by e)
-read_cause (stop.Setting setting) most wanted input source sink status outcome by e =
-    absurd (never sink 2 7 status (inr (omega arith)) (omega arith) by e)
-read_cause stop.InputForm most wanted input source sink status outcome by e =
-    absurd (never sink 3 7 status (inr (omega arith)) (omega arith) by e)
-read_cause (stop.Budget budget) most wanted input source sink status outcome by e =
-    absurd (never sink 4 7 status (inr (omega arith)) (omega arith) by e)
-read_cause stop.ReadFault most wanted input source sink status outcome by e = outcome.cause
-read_cause stop.Memory most wanted input source sink status outcome by e =
-    absurd (never sink 9 7 status (inl (omega arith)) (omega arith) by e)
+read_cause (stop.Words place) most Wanted input source sink status outcome by e = absurd (never sink 1 7 status (inr (omega arith)) (omega arith) by e)
+read_cause (stop.Setting setting) most Wanted input source sink status outcome by e = absurd (never sink 2 7 status (inr (omega arith)) (omega arith) by e)
+read_cause stop.InputForm most Wanted input source sink status outcome by e = absurd (never sink 3 7 status (inr (omega arith)) (omega arith) by e)
+read_cause stop.InputLimit most Wanted input source sink status outcome by e = absurd (never sink 3 7 status (inr (omega arith)) (omega arith) by e)
+read_cause (stop.InputCut place) most Wanted input source sink status outcome by e = absurd (never sink 3 7 status (inr (omega arith)) (omega arith) by e)
+read_cause (stop.Budget budget) most Wanted input source sink status outcome by e = absurd (never sink 4 7 status (inr (omega arith)) (omega arith) by e)
+read_cause (stop.Damaged damage) most Wanted input source sink status outcome by e = absurd (never sink 6 7 status (inr (omega arith)) (omega arith) by e)
+read_cause stop.ReadFault most Wanted input source sink status outcome by e = outcome.cause
+read_cause stop.Memory most Wanted input source sink status outcome by e = absurd (never sink 9 7 status (inl (omega arith)) (omega arith) by e)
 
 -- What the words are
+
+same_refusal : (other why : Refusal) → stop_of other ≡ stop_of why → other ≡ why
+same_refusal (refusal.Words place) (refusal.Words other) e = cc
+same_refusal (refusal.Words place) (refusal.Setting setting) e = absurd (cc)
+same_refusal (refusal.Setting setting) (refusal.Words place) e = absurd (cc)
+same_refusal (refusal.Setting setting) (refusal.Setting other) e = cc
 
 -- encoding never refuses the words
 never_refuses : (test : Bool) (x : Result Stream Budget) (why : Refusal) → ¬ ((if test then codestream_of x else Err stop.InputForm) ≡ Err (stop_of why))
@@ -223,21 +245,21 @@ never_refuses true (Err budget) (refusal.Setting setting) e = cc
 never_refuses false x (refusal.Words place) e = cc
 never_refuses false x (refusal.Setting setting) e = cc
 
-same_refusal : (other why : Refusal) → stop_of other ≡ stop_of why → other ≡ why
-same_refusal (refusal.Words place) (refusal.Words other) e = cc
-same_refusal (refusal.Words place) (refusal.Setting setting) e = absurd (cc)
-same_refusal (refusal.Setting setting) (refusal.Words place) e = absurd (cc)
-same_refusal (refusal.Setting setting) (refusal.Setting other) e = cc
+-- nor does a command
+no_refusal : (command : Command) (input : List ℕ) (why : Refusal) → ¬ IsResult command input (Err (stop_of why))
+no_refusal (Encode s) input why given = never_refuses (nat_eq (length input) (raw_size s.shape)) (encoding_of s (picture_of s.shape input)) why given
+no_refusal Decode input (refusal.Words place) given = given
+no_refusal Decode input (refusal.Setting setting) given = given
 
-refused_by : (words : List (List ℕ)) (input : List ℕ) (why : Refusal) → outcome_of words input ≡ Err (stop_of why) → refusal_of words ≡ Some why
-refused_by words input why = by_refusal (refusal_of words)
+refused_by : (words : List (List ℕ)) (input : List ℕ) (why : Refusal) → IsOutcome words input (Err (stop_of why)) → refusal_of words ≡ Some why
+refused_by words input why = by_refusal (refusal_of words) (command_of words)
   where
-    by_refusal : (o : Option Refusal) → (elim o as (λ _. Result (List ℕ) Stop) [ None ↦ encoded (settings_of words) input | Some refusal ↦ Err (stop_of refusal) ]) ≡ Err (stop_of why) → o ≡ Some why
-    by_refusal None e = absurd (never_refuses (nat_eq (length input) (raw_size (settings_of words).shape)) (encoding_of (settings_of words) (picture_of (settings_of words).shape input)) why e)
-    by_refusal (Some other) e = ap Some (same_refusal other why (cc))
+    by_refusal : (o : Option Refusal) (command : Command) → IsResultUnless o command input (Err (stop_of why)) → o ≡ Some why
+    by_refusal None command outcome = absurd (no_refusal command input why outcome)
+    by_refusal (Some other) command outcome = ap Some (same_refusal other why (cc))
 
 -- refused words
-refusals_refused : (words : List (List ℕ)) (input : List ℕ) (sink : Change) (status : ℕ) (why : Refusal) → outcome_of words input ≡ Err (stop_of why)
+refusals_refused : (words : List (List ℕ)) (input : List ℕ) (sink : Change) (status : ℕ) (why : Refusal) → IsOutcome words input (Err (stop_of why))
     → Ended sink (stop_status (stop_of why)) status → HasRefusals words status
 refusals_refused words input sink status (refusal.Words place) outcome by = record {
   words_only = λ _. (place, refused_by words input (refusal.Words place) outcome);
@@ -284,17 +306,35 @@ refusals_of : (words : List (List ℕ)) (source sink : Change) (status : ℕ) (w
 refusals_of words source sink status (stop.Words place) follow by = refusals_refused words follow.input sink status (refusal.Words place) follow.outcome by
 refusals_of words source sink status (stop.Setting setting) follow by = refusals_refused words follow.input sink status (refusal.Setting setting) follow.outcome by
 refusals_of words source sink status stop.InputForm follow by =
-    refusals_accepted words sink 3 status (λ why. not_refused words follow.input why (Err stop.InputForm) follow.outcome (unlike_form why)) (omega arith) by
+    refusals_accepted words sink 3 status (λ why. not_refused words follow.input why (Err stop.InputForm) follow.outcome (unlike why)) (omega arith) by
   where
-    unlike_form : (why : Refusal) → ¬ (stopped_by (stop_of why) ≡ stopped_by stop.InputForm)
-    unlike_form (refusal.Words place) e = cc
-    unlike_form (refusal.Setting setting) e = cc
+    unlike : (why : Refusal) → ¬ (stopped_by (stop_of why) ≡ stopped_by stop.InputForm)
+    unlike (refusal.Words first) e = cc
+    unlike (refusal.Setting setting) e = cc
+refusals_of words source sink status stop.InputLimit follow by =
+    refusals_accepted words sink 3 status (λ why. not_refused words follow.input why (Err stop.InputLimit) follow.outcome (unlike why)) (omega arith) by
+  where
+    unlike : (why : Refusal) → ¬ (stopped_by (stop_of why) ≡ stopped_by stop.InputLimit)
+    unlike (refusal.Words first) e = cc
+    unlike (refusal.Setting setting) e = cc
+refusals_of words source sink status (stop.InputCut place) follow by =
+    refusals_accepted words sink 3 status (λ why. not_refused words follow.input why (Err (stop.InputCut place)) follow.outcome (unlike why)) (omega arith) by
+  where
+    unlike : (why : Refusal) → ¬ (stopped_by (stop_of why) ≡ stopped_by (stop.InputCut place))
+    unlike (refusal.Words first) e = cc
+    unlike (refusal.Setting setting) e = cc
 refusals_of words source sink status (stop.Budget budget) follow by =
-    refusals_accepted words sink 4 status (λ why. not_refused words follow.input why (Err (stop.Budget budget)) follow.outcome (unlike_budget why)) (omega arith) by
+    refusals_accepted words sink 4 status (λ why. not_refused words follow.input why (Err (stop.Budget budget)) follow.outcome (unlike why)) (omega arith) by
   where
-    unlike_budget : (why : Refusal) → ¬ (stopped_by (stop_of why) ≡ stopped_by (stop.Budget budget))
-    unlike_budget (refusal.Words place) e = cc
-    unlike_budget (refusal.Setting setting) e = cc
+    unlike : (why : Refusal) → ¬ (stopped_by (stop_of why) ≡ stopped_by (stop.Budget budget))
+    unlike (refusal.Words first) e = cc
+    unlike (refusal.Setting setting) e = cc
+refusals_of words source sink status (stop.Damaged damage) follow by =
+    refusals_accepted words sink 6 status (λ why. not_refused words follow.input why (Err (stop.Damaged damage)) follow.outcome (unlike why)) (omega arith) by
+  where
+    unlike : (why : Refusal) → ¬ (stopped_by (stop_of why) ≡ stopped_by (stop.Damaged damage))
+    unlike (refusal.Words first) e = cc
+    unlike (refusal.Setting setting) e = cc
 refusals_of words source sink status stop.ReadFault follow by = refusals_accepted words sink 7 status (λ why e. none_some (follow.command refl) e) (omega arith) by
   where
     none_some : {why : Refusal} → refusal_of words ≡ None → refusal_of words ≡ Some why → ⊥
@@ -304,27 +344,26 @@ refusals_of words source sink status stop.Memory follow by = refusals_unknown wo
 -- The answers
 
 answered : (words : List (List ℕ)) (source notes : Change) (held : Option (List ℕ)) (faults : ℕ) (why : Stop) (status : ℕ) (follow : IsFollowed words source (Err why))
-    → outcome_of words follow.input ≡ Err why → Tells notes (stop_line why) (stop_status why) status → HasAnswer words (ends_of source (change_of held held faults faults) notes) status
+    → IsOutcome words follow.input (Err why) → Tells notes (stop_line why) (stop_status why) status → HasAnswer words (ends_of source (change_of held held faults faults) notes) status
 answered words source notes held faults why status follow outcome told = record {
   input = follow.input;
   left = follow.left;
-  said = said_of (Err why);
-  answer = sym (ap said_of outcome);
-  ending = ending_by_note words follow.input source notes held faults why status told;
+  ending = ending_by_note words follow.input source notes held faults why status outcome told;
 }
 
 answer_of_stop : (words : List (List ℕ)) (source notes : Change) (held : Option (List ℕ)) (faults : ℕ) (why : Stop) (status : ℕ) → IsFollowed words source (Err why)
-    → Tells notes (stop_line why) (stop_status why) status → HasAnswer words (ends_of source (change_of held held faults faults) notes) status
+    → IsTold notes why status → HasAnswer words (ends_of source (change_of held held faults faults) notes) status
 answer_of_stop words source notes held faults (stop.Words place) status follow told = answered words source notes held faults (stop.Words place) status follow follow.outcome told
 answer_of_stop words source notes held faults (stop.Setting setting) status follow told = answered words source notes held faults (stop.Setting setting) status follow follow.outcome told
 answer_of_stop words source notes held faults stop.InputForm status follow told = answered words source notes held faults stop.InputForm status follow follow.outcome told
+answer_of_stop words source notes held faults stop.InputLimit status follow told = answered words source notes held faults stop.InputLimit status follow follow.outcome told
+answer_of_stop words source notes held faults (stop.InputCut place) status follow told = answered words source notes held faults (stop.InputCut place) status follow follow.outcome told
 answer_of_stop words source notes held faults (stop.Budget budget) status follow told = answered words source notes held faults (stop.Budget budget) status follow follow.outcome told
+answer_of_stop words source notes held faults (stop.Damaged damage) status follow told = answered words source notes held faults (stop.Damaged damage) status follow follow.outcome told
 answer_of_stop words source notes held faults stop.ReadFault status follow told = record {
   input = follow.input;
   left = follow.left;
-  said = said_of (outcome_of words follow.input);
-  answer = refl;
-  ending = ending_by_fault words follow.input (said_of (outcome_of words follow.input)) source (change_of held held faults faults) notes status
+  ending = ending_by_fault words follow.input source (change_of held held faults faults) notes status
       (record {
         command = follow.command refl;
         cause = follow.outcome.cause;
@@ -339,26 +378,62 @@ answer_of_stop words source notes held faults stop.ReadFault status follow told 
 answer_of_stop words source notes held faults stop.Memory status follow told = record {
   input = follow.input;
   left = follow.left;
-  said = said_of (outcome_of words follow.input);
-  answer = refl;
-  ending = ending_by_memory words follow.input (said_of (outcome_of words follow.input)) source notes held faults status told;
+  ending = inr (inr (inr (record { nine = told.1; output = Keeps-refl held; notes = told.0 })));
 }
 
 -- The run was stopped, which was told to the notes
 pub after_stop : (words : List (List ℕ)) (source notes : Change) (held : Option (List ℕ)) (faults : ℕ) (why : Stop) (status : ℕ) → IsFollowed words source (Err why)
-    → Tells notes (stop_line why) (stop_status why) status → IsRun words (ends_of source (change_of held held faults faults) notes) status
+    → IsTold notes why status → IsRun words (ends_of source (change_of held held faults faults) notes) status
 after_stop words source notes held faults why status follow told =
-    let by = ended notes (stop_line why) (stop_status why) status told in
+    let by = told_as notes why status told in
     run_of words _ status (answer_of_stop words source notes held faults why status follow told)
     (record {
-      read = read_cause why _ _ follow.input source notes status follow.outcome by;
+      read = read_cause why (most_wanted (command_of words)) (IsOutcome words follow.input) follow.input source notes status follow.outcome by;
       write = λ e. inr (failed_where_8 notes (stop_status why) status (not_8 why) by e);
       range = at_most_9 notes (stop_status why) status (status_range why) by;
     })
     (refusals_of words source notes status why follow by)
-    (record { whole = λ e. absurd (not_done by e); kept = follow.kept })
+    (record { whole = λ e. absurd (not_done by e); most = follow.taken; kept = follow.kept })
   where
     not_done : Ended notes (stop_status why) status → ¬ (status ≡ 0)
     not_done (inl same) e = not_0 why (sym e ∙ same)
     not_done (inr (inl failed)) e = omega (arith, e, failed.0)
     not_done (inr (inr memory)) e = omega (arith, e, memory)
+
+-- What is told is named
+
+never_damaged : (test : Bool) (x : Result Stream Budget) (damage : Damage) → ¬ ((if test then codestream_of x else Err stop.InputForm) ≡ Err (stop.Damaged damage))
+never_damaged true (Ok stream) damage e = cc
+never_damaged true (Err budget) damage e = cc
+never_damaged false x damage e = cc
+
+names_damage : (input : List ℕ) (damage : Damage) → IsDamage input damage → NamesFault (damage_note damage)
+names_damage input (damage.Header fault) given = given
+names_damage input (damage.Length stated actual) given = given
+names_damage input (damage.Slice slice slice_fault.Short) given = given
+names_damage input (damage.Slice slice slice_fault.Head) given = given
+names_damage input (damage.Slice slice (slice_fault.Trailing place)) given = given
+names_damage input (damage.Slice slice slice_fault.End) given = given
+names_damage input (damage.Slice slice slice_fault.Memory) given = given
+names_damage input (damage.Slice slice (slice_fault.Precinct number precinct_fault.Truncated)) given = given
+names_damage input (damage.Slice slice (slice_fault.Precinct number (precinct_fault.Overrun packet part))) given = given
+names_damage input (damage.Slice slice (slice_fault.Precinct number (precinct_fault.Count packet value))) given = given
+names_damage input (damage.Slice slice (slice_fault.Precinct number (precinct_fault.Unbuilt packet))) given = λ e. cc
+names_damage input (damage.Slice slice (slice_fault.Precinct number precinct_fault.Memory)) given = given
+
+pub names_stop : (words : List (List ℕ)) (source : Change) (why : Stop) → IsFollowed words source (Err why) → NamesStop why
+names_stop words source (stop.Words place) follow = tt
+names_stop words source (stop.Setting setting) follow = tt
+names_stop words source stop.InputForm follow = tt
+names_stop words source stop.InputLimit follow = tt
+names_stop words source (stop.InputCut place) follow = tt
+names_stop words source (stop.Budget budget) follow = tt
+names_stop words source (stop.Damaged damage) follow = by_refusal (refusal_of words) (command_of words) follow.outcome
+  where
+    by_refusal : (o : Option Refusal) (command : Command) → IsResultUnless o command follow.input (Err (stop.Damaged damage)) → NamesFault (damage_note damage)
+    by_refusal None (Encode s) outcome = absurd (never_damaged (nat_eq (length follow.input) (raw_size s.shape)) (encoding_of s (picture_of s.shape follow.input)) damage outcome)
+    by_refusal None Decode outcome = names_damage follow.input damage outcome.1
+    by_refusal (Some (refusal.Words place)) command outcome = absurd (cc)
+    by_refusal (Some (refusal.Setting setting)) command outcome = absurd (cc)
+names_stop words source stop.ReadFault follow = tt
+names_stop words source stop.Memory follow = tt

@@ -1,3 +1,4 @@
+pub mod Decoding
 pub mod Answer
 pub mod Ends
 pub mod Run

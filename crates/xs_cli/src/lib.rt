@@ -1,6 +1,9 @@
 //! What the program does: the top call, over any source, sinks and gate.
 #![tactic(auto)]
 
+ghost use Rattle.xs_cli.specs.Decoding.{DecodingTellsExactly};
+
+mod decode;
 mod encode;
 mod raw;
 mod stop;
@@ -8,5 +11,9 @@ mod stop;
 mod tests;
 mod top;
 
-pub use stop::Stop;
 pub use top::run;
+
+/// What comes of an input of decoding is a picture exactly where the input is one codestream.
+pub fn decoding_tells_exactly()
+    ensures { DecodingTellsExactly }
+{}

@@ -21,6 +21,8 @@ const STARVED: &str =
 
 const GREY_BYTES: usize = 128;
 
+const STREAM_BYTES: usize = 232;
+
 // The header of the codestream of a grey picture of 32 by 4 samples of 128 or less, all alike.
 const HEADER: [u8; 48] = [
     0xff, 0x10, 0xff, 0x50, 0x00, 0x02, 0xff, 0x12, 0x00, 0x1a, 0x00, 0x00, 0x00, 0xe8, 0x00, 0x00,
@@ -103,17 +105,17 @@ fn zeros(alloc: Global, size: usize) -> Result<Octets, Memory> {
     }
 }
 
-// Runs words on so many zero bytes, where one call of each end may fail.
+// Runs words on these bytes, where one call of each end may fail.
 fn run_on<T: Threads + Sync>(
     threads: &T,
     alloc: Global,
     words: &str,
-    size: usize,
+    bytes: Octets,
     failing: [Option<u32>; 3],
 ) -> Result<Outcome, Memory> {
     let [read, write, note] = failing;
     let words = words_of(alloc, words)?;
-    let mut input = MemSource::new(zeros(alloc, size)?, fails(alloc, read)?);
+    let mut input = MemSource::new(bytes, fails(alloc, read)?);
     let mut output = MemSink::new(alloc, fails(alloc, write)?);
     let mut notes = MemSink::new(alloc, fails(alloc, note)?);
     let status = run(
@@ -145,9 +147,25 @@ fn grey_stream(alloc: Global) -> Result<Octets, Memory> {
     Ok(stream)
 }
 
+// The codestream with another byte at some places, cut or followed by zeros to so many bytes.
+fn changed_stream(alloc: Global, changes: &[(usize, u8)], size: usize) -> Result<Octets, Memory> {
+    let stream = grey_stream(alloc)?;
+    let mut bytes = Vec::from_slice(alloc, stream.as_slice()).map_err(|_| Memory)?;
+    for (place, byte) in changes {
+        if *place < bytes.len() {
+            bytes[*place] = *byte;
+        }
+    }
+    let kept = size.min(bytes.len());
+    let mut input = Octets::from_slice(alloc, &bytes[..kept])?;
+    input.extend(zeros(alloc, size - kept)?.as_slice())?;
+    Ok(input)
+}
+
 #[test]
 fn encodes_one_grey_picture(rt: HostRuntime) -> Result<(), Fail> {
-    let left = run_on(&rt, rt.alloc(), GREY_LINE, GREY_BYTES, [None, None, None])?;
+    let grey = zeros(rt.alloc(), GREY_BYTES)?;
+    let left = run_on(&rt, rt.alloc(), GREY_LINE, grey, [None, None, None])?;
     assert_eq!(rt; left.status, 0);
     assert_eq!(rt; left.output.held(), grey_stream(rt.alloc())?.as_slice());
     assert_eq!(rt; left.notes.held(), [].as_slice());
@@ -194,7 +212,8 @@ fn refuses_by_status_and_note(rt: HostRuntime) -> Result<(), Fail> {
         (GREY_LINE, GREY_BYTES, only_output, 8, ""),
     ];
     for (words, size, failing, status, note) in rows {
-        let left = run_on(&rt, rt.alloc(), words, size, failing)?;
+        let input = zeros(rt.alloc(), size)?;
+        let left = run_on(&rt, rt.alloc(), words, input, failing)?;
         assert_eq!(rt; left.status, status, "{words}, {size} bytes");
         assert_eq!(rt; left.output.held(), [].as_slice(), "{words}, {size} bytes");
         assert_eq!(rt; left.notes.held(), note.as_bytes(), "{words}, {size} bytes");
@@ -242,5 +261,126 @@ fn ends_with_streams_that_tell_nothing(rt: HostRuntime) -> Result<(), Fail> {
     );
     assert_eq!(rt; status, 8);
     assert_eq!(rt; mute.faults, 2);
+    Ok(())
+}
+
+#[test]
+fn decodes_one_codestream(rt: HostRuntime) -> Result<(), Fail> {
+    let sure = [None, None, None];
+    let no_input = [Some(0), None, None];
+    let late_input = [Some(1), None, None];
+    let no_output = [None, Some(0), None];
+    let no_notes = [None, None, Some(0)];
+    let only_notes = [None, Some(0), None];
+    let whole = [].as_slice();
+    // The places: 10 the stated length, 18 the width, 48 the slice, 54 the first precinct, 186 the last, 230 the end.
+    let rows = [
+        (whole, STREAM_BYTES, sure, 0, ""),
+        (&[(13, 0)], STREAM_BYTES, sure, 0, ""),
+        (whole, 0, sure, 3, "input form\n"),
+        (whole, STREAM_BYTES + 1, sure, 3, "input form\n"),
+        (whole, 1, sure, 3, "input cut 1\n"),
+        (whole, 20, sure, 3, "input cut 20\n"),
+        (whole, 48, sure, 3, "input cut 48\n"),
+        (whole, 60, sure, 3, "input cut 60\n"),
+        (whole, STREAM_BYTES - 2, sure, 3, "input cut 230\n"),
+        (whole, STREAM_BYTES - 1, sure, 3, "input cut 231\n"),
+        (&[(188, 0xff)], STREAM_BYTES, sure, 3, "input cut 232\n"),
+        (
+            &[(0, 0)],
+            STREAM_BYTES,
+            sure,
+            6,
+            "damaged picture 0 header marker 0010 0\n",
+        ),
+        (
+            &[(3, 0x51)],
+            STREAM_BYTES,
+            sure,
+            6,
+            "damaged picture 0 header marker ff51 2\n",
+        ),
+        (
+            &[(9, 25)],
+            STREAM_BYTES,
+            sure,
+            6,
+            "damaged picture 0 header length ff12 25\n",
+        ),
+        (
+            &[(19, 16)],
+            STREAM_BYTES,
+            sure,
+            6,
+            "damaged picture 0 header unsupported wf 16\n",
+        ),
+        (
+            &[(53, 1)],
+            STREAM_BYTES,
+            sure,
+            6,
+            "damaged picture 0 slice 0 head\n",
+        ),
+        (
+            &[(59, 0x20)],
+            STREAM_BYTES,
+            sure,
+            6,
+            "damaged picture 0 slice 0 precinct 0 packet 0 unbuilt\n",
+        ),
+        (
+            &[(60, 0x80)],
+            STREAM_BYTES,
+            only_notes,
+            6,
+            "damaged picture 0 slice 0 precinct 0 packet 0 unbuilt\n",
+        ),
+        (
+            &[(61, 27)],
+            STREAM_BYTES,
+            sure,
+            6,
+            "damaged picture 0 slice 0 precinct 0 packet 0 overrun data\n",
+        ),
+        (
+            &[(66, 0xff)],
+            STREAM_BYTES,
+            sure,
+            6,
+            "damaged picture 0 slice 0 precinct 0 packet 0 count 25\n",
+        ),
+        (
+            &[(231, 0x12)],
+            STREAM_BYTES,
+            sure,
+            6,
+            "damaged picture 0 slice 0 end\n",
+        ),
+        (
+            &[(13, 1)],
+            STREAM_BYTES,
+            sure,
+            6,
+            "damaged picture 0 length 1 232\n",
+        ),
+        (whole, STREAM_BYTES, no_input, 7, "read fault\n"),
+        (whole, STREAM_BYTES, late_input, 7, "read fault\n"),
+        (whole, STREAM_BYTES, no_output, 8, ""),
+        (&[(0, 0)], STREAM_BYTES, no_notes, 8, ""),
+        (whole, 0, no_notes, 8, ""),
+    ];
+    for (changes, size, failing, status, note) in rows {
+        let alloc = rt.alloc();
+        let input = changed_stream(alloc, changes, size)?;
+        let left = run_on(&rt, alloc, "decode --form xs", input, failing)?;
+        let samples = if status == 0 { GREY_BYTES } else { 0 };
+        assert_eq!(rt; left.status, status, "{note}");
+        assert_eq!(rt;
+            left.output.held(),
+            zeros(alloc, samples)?.as_slice(),
+            "{note}"
+        );
+        assert_eq!(rt; left.notes.held(), note.as_bytes());
+    }
     Ok(())
 }

@@ -58,7 +58,7 @@ picture_body h p lcod hsl =
 
 -- The components
 
-abbrev fields_of : Format → ℕ → List (ℕ × ℕ)
+abbrev pub fields_of : Format → ℕ → List (ℕ × ℕ)
 fields_of format depth = flat_map (λ component. (8, depth) ∷ (4, sampling_of format component) ∷ (4, 1) ∷ []) (upto (components_of format))
 
 components_room : (format : Format) (depth : ℕ) → depth < 2 ^ 8 → AreFields (fields_of format depth)
@@ -84,10 +84,10 @@ component_body h p =
 
 -- The weights
 
-abbrev pairs_of : List Weight → List (ℕ × ℕ)
+abbrev pub pairs_of : List Weight → List (ℕ × ℕ)
 pairs_of weights = flat_map (λ (weight : Weight). (8, weight.gain) ∷ (8, weight.priority) ∷ []) weights
 
-weights_widths : (weights : List Weight) → widths (pairs_of weights) ≡ 16 * length weights
+pub weights_widths : (weights : List Weight) → widths (pairs_of weights) ≡ 16 * length weights
 weights_widths [] = refl
 weights_widths (weight ∷ weights) = omega (arith, weights_widths weights)
 

@@ -1,5 +1,9 @@
-use crate::{Header, write_header};
+ghost use Rattle.std.specs.Prelude.{◌<◌, ◌^◌, length};
+
+use crate::{Header, read_header, write_header};
+use std::alloc::Global;
 use std::test::Fail;
+use xs_faults::{HeadFault, HeadField};
 use xs_params::{Format, Quant, Shape, Weight, Weights};
 
 // The header of a grey picture of 32 by 4 samples, in a codestream of 215 bytes: the start marker; empty capabilities;
@@ -54,5 +58,165 @@ fn a_grey_header_is_written(rt: HostRuntime) -> Result<(), Fail> {
     let mut plain = GREY;
     plain[13] = 0xe8;
     assert!(rt; write_header(alloc, &header)?.as_slice() == plain.as_slice());
+    Ok(())
+}
+
+// The same header in a codestream of 232 bytes, and the marker of a slice.
+const READ: [u8; 50] = [
+    0xff, 0x10, //
+    0xff, 0x50, 0, 2, //
+    0xff, 0x12, 0, 0x1a, 0, 0, 0, 0xe8, 0, 0, 0, 0, 0, 0x20, 0, 4, 0, 0, 0, 4, 1, 4, 8, 0x14, 0x84,
+    0, 0x10, 0, //
+    0xff, 0x13, 0, 4, 8, 0x11, //
+    0xff, 0x14, 0, 6, 0, 0, 0, 1, //
+    0xff, 0x20,
+];
+
+// It with some bytes changed, each given with its place.
+fn changed(changes: &[(usize, u8)]) -> [u8; 50] {
+    let mut bytes = READ;
+    for (place, value) in changes {
+        if let Some(byte) = bytes.get_mut(*place) {
+            *byte = *value;
+        }
+    }
+    bytes
+}
+
+#[test]
+fn a_grey_header_is_read(rt: HostRuntime) -> Result<(), Fail> {
+    // Profile, level, long packet headers, the field Rl, a gain and a priority.
+    let noise = [
+        (14, 7),
+        (15, 6),
+        (16, 5),
+        (17, 4),
+        (33, 0xc0),
+        (44, 9),
+        (47, 8),
+    ];
+    let (header, size) = read_header(rt.alloc(), &changed(&noise))?;
+    assert!(rt; size == 48);
+    assert!(rt; header.lcod == 232 && header.hsl == 4 && header.bw == 20 && header.fq == 8);
+    assert!(rt; header.shape.width == 32 && header.shape.height == 4 && header.shape.depth == 8);
+    assert!(rt; header.shape.format == Format::Mono && header.quant == Quant::DeadZone);
+    assert!(rt; header.nlx == 1 && header.nly == 0 && header.long_heads && header.run_mode == 0);
+    assert!(rt; !header.colour && !header.signs_apart);
+    let weights = [
+        Weight {
+            gain: 9,
+            priority: 0,
+        },
+        Weight {
+            gain: 0,
+            priority: 8,
+        },
+    ];
+    assert!(rt; header.weights.as_slice() == weights.as_slice());
+    Ok(())
+}
+
+fn fault_of(alloc: Global, bytes: &[u8]) -> Option<HeadFault>
+    requires { length bytes.now < 2 ^ 32 }
+{
+    read_header(alloc, bytes).err()
+}
+
+// What is refused with some bytes changed.
+fn refusal_of(alloc: Global, changes: &[(usize, u8)]) -> Option<HeadFault> {
+    fault_of(alloc, &changed(changes))
+}
+
+#[test]
+fn cut_headers_are_refused(rt: HostRuntime) -> Result<(), Fail> {
+    for place in 0..48 {
+        let fault = fault_of(rt.alloc(), &READ[..place]);
+        assert!(rt;
+            fault
+                == Some(HeadFault::Truncated {
+                    place: place as u32
+                })
+        );
+    }
+    assert!(rt; fault_of(rt.alloc(), &READ[..48]).is_none());
+    assert!(rt; fault_of(rt.alloc(), &READ[..49]) == Some(HeadFault::Truncated { place: 49 }));
+    Ok(())
+}
+
+#[test]
+fn other_segments_are_refused(rt: HostRuntime) -> Result<(), Fail> {
+    let alloc = rt.alloc();
+    // Each change, the code that it makes, and its place.
+    let markers = [
+        ((0, 0xfe), 0xfe10, 0),
+        ((3, 0x15), 0xff15, 2),
+        ((7, 0x13), 0xff13, 6),
+        ((35, 0x14), 0xff14, 34),
+        ((41, 0x13), 0xff13, 40),
+        ((49, 0x11), 0xff11, 48),
+    ];
+    for (change, code, place) in markers {
+        assert!(rt; refusal_of(alloc, &[change]) == Some(HeadFault::Marker { code, place }));
+    }
+    // Each change, the code of the segment, and the length that the change makes.
+    let lengths = [
+        ((5, 3), 0xff50, 3),
+        ((9, 27), 0xff12, 27),
+        ((37, 5), 0xff13, 5),
+        ((43, 7), 0xff14, 7),
+    ];
+    for (change, code, length) in lengths {
+        assert!(rt; refusal_of(alloc, &[change]) == Some(HeadFault::Length { code, length }));
+    }
+    Ok(())
+}
+
+#[test]
+fn other_values_are_refused(rt: HostRuntime) -> Result<(), Fail> {
+    // Each change, the field, and the value that the change makes.
+    let values = [
+        ((19, 31), HeadField::Wf, 31),
+        ((18, 0x20), HeadField::Wf, 8224),
+        ((21, 3), HeadField::Hf, 3),
+        ((23, 1), HeadField::Cw, 1),
+        ((25, 0), HeadField::Hsl, 0),
+        ((26, 3), HeadField::Nc, 3),
+        ((27, 5), HeadField::Ng, 5),
+        ((28, 4), HeadField::Ss, 4),
+        ((29, 18), HeadField::Bw, 18),
+        ((30, 0x64), HeadField::Fq, 6),
+        ((30, 0x85), HeadField::Br, 5),
+        ((31, 0x80), HeadField::Fslc, 1),
+        ((31, 0x10), HeadField::Ppoc, 1),
+        ((31, 0x01), HeadField::Cpih, 1),
+        ((32, 0x20), HeadField::Nlx, 2),
+        ((32, 0x11), HeadField::Nly, 1),
+        ((33, 0x10), HeadField::Qpih, 1),
+        ((33, 0x04), HeadField::Fs, 1),
+        ((33, 0x01), HeadField::Rm, 1),
+        ((38, 10), HeadField::Bc, 10),
+        ((39, 0x21), HeadField::Sx, 2),
+        ((39, 0x12), HeadField::Sy, 2),
+    ];
+    let alloc = rt.alloc();
+    for (change, field, value) in values {
+        assert!(rt; refusal_of(alloc, &[change]) == Some(HeadFault::Unsupported { field, value }));
+    }
+    // 8192 by 2052 samples, and slices of one line where there are 2052 lines.
+    let area = refusal_of(alloc, &[(18, 0x20), (19, 0), (20, 8)]);
+    assert!(rt;
+        area == Some(HeadFault::Unsupported {
+            field: HeadField::Area,
+            value: 16_809_984
+        })
+    );
+    let slices = refusal_of(alloc, &[(20, 8), (25, 1)]);
+    assert!(rt;
+        slices
+            == Some(HeadFault::Unsupported {
+                field: HeadField::Slices,
+                value: 2052
+            })
+    );
     Ok(())
 }

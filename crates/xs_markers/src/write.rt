@@ -5,22 +5,11 @@ ghost use Rattle.xs_grammar.specs.Header.{IsAccepted, quant_code, component_fiel
 ghost use Rattle.xs_grammar.specs.Coded.{field_bytes, header_bytes};
 ghost use Rattle.xs_markers.specs.Fields.{AreFields, IsBody};
 
+use crate::codes::{CAP, CDT, PIH, SOC, WGT};
 use crate::fields::bytes_of_fields;
 use std::alloc::Global;
 use xs_io::{Memory, Octets};
 use xs_params::{Format, Header, Quant};
-
-// The marker that begins a codestream, and the codes of the segments of a header: capabilities, picture header,
-// components, weights.
-const SOC: u16 = 0xff10;
-
-const CAP: u16 = 0xff50;
-
-const PIH: u16 = 0xff12;
-
-const CDT: u16 = 0xff13;
-
-const WGT: u16 = 0xff14;
 
 fn components_of(format: Format) -> u8
     ensures { result ≡ components_of format }

@@ -13,6 +13,7 @@ use Rattle.xs_faults.specs.declared.PrecinctFault.{PrecinctFault}
 use Rattle.xs_faults.specs.declared.PrecinctFault.TheVariants as precinct
 use Rattle.xs_faults.specs.declared.SliceFault.{SliceFault}
 use Rattle.xs_faults.specs.declared.SliceFault.TheVariants as slice
+use Rattle.xs_faults.specs.Names.{NamesSliceFault}
 use Rattle.xs_notes.specs.declared.note.Note.{Note}
 use Rattle.xs_notes.specs.declared.note.Note.TheVariants as note
 
@@ -91,6 +92,7 @@ abbrev pub precinct_text : PrecinctFault → List ℕ
 precinct_text precinct.Truncated = codes "truncated"
 precinct_text (precinct.Overrun packet part) = codes "packet " ++ decimal packet ++ codes " overrun " ++ part_name part
 precinct_text (precinct.Count packet value) = codes "packet " ++ decimal packet ++ codes " count " ++ decimal value
+precinct_text (precinct.Unbuilt packet) = codes "packet " ++ decimal packet ++ codes " unbuilt"
 precinct_text precinct.Memory = []
 
 abbrev pub slice_text : SliceFault → List ℕ
@@ -128,14 +130,6 @@ abbrev pub lines_of : List Note → List ℕ
 lines_of notes = flat_map line_of notes
 
 -- No fault inside is want of memory
-
-abbrev pub NamesSliceFault : SliceFault → Type 0
-NamesSliceFault slice.Short = ⊤
-NamesSliceFault slice.Head = ⊤
-NamesSliceFault (slice.Precinct number fault) = fault ≢ precinct.Memory
-NamesSliceFault (slice.Trailing place) = ⊤
-NamesSliceFault slice.End = ⊤
-NamesSliceFault slice.Memory = ⊥
 
 abbrev pub NamesFault : Note → Type 0
 NamesFault (note.DamagedHeader picture fault) = fault ≢ head.Memory

@@ -1,6 +1,6 @@
 // Notes and their lines.
 ghost use Rattle.std.specs.Prelude.{◌≢◌, IsTrue};
-ghost use Rattle.xs_notes.specs.Lines.{NamesSliceFault};
+ghost use Rattle.xs_faults.specs.Names.{NamesSliceFault};
 
 use crate::{Note, report};
 use std::alloc::Global;
@@ -80,6 +80,10 @@ fn lines(rt: HostRuntime) -> Result<(), Fail> {
     let overrun = SliceFault::Precinct {
         precinct: 0,
         fault: data,
+    };
+    let unbuilt = SliceFault::Precinct {
+        precinct: 0,
+        fault: PrecinctFault::Unbuilt { packet: 0 },
     };
     let trailing = SliceFault::Trailing { place: 7 };
     let rows = [
@@ -162,6 +166,14 @@ fn lines(rt: HostRuntime) -> Result<(), Fail> {
                 fault: overrun,
             },
             "damaged picture 0 slice 0 precinct 0 packet 0 overrun data\n",
+        ),
+        (
+            Note::DamagedSlice {
+                picture: 0,
+                slice: 0,
+                fault: unbuilt,
+            },
+            "damaged picture 0 slice 0 precinct 0 packet 0 unbuilt\n",
         ),
         (
             Note::DamagedSlice {

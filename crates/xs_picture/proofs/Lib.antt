@@ -2,3 +2,15 @@ pub mod Linked
 pub mod Local
 pub mod Lines
 pub mod Pictures
+pub mod Coverage
+pub mod Bounds
+pub mod Filled
+pub mod Entries
+pub mod SlicesRead
+pub mod StreamsRead
+pub mod Unbuilt
+pub mod ReadAgain
+pub mod OnePicture
+pub mod Placed
+pub mod Turned
+pub mod Decoded

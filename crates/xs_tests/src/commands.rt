@@ -10,10 +10,10 @@ const FIRST: &str = "encode --form xs --format mono --quant deadzone --nlx 1 --n
 
 // What a run left.
 #[derive(Drop)]
-struct Outcome {
-    status: u8,
-    output: MemSink,
-    notes: MemSink,
+pub struct Outcome {
+    pub status: u8,
+    pub output: MemSink,
+    pub notes: MemSink,
 }
 
 fn push_words(alloc: Global, words: &mut Vec<String>, text: &str) -> Result<(), Memory> {
@@ -26,7 +26,7 @@ fn push_words(alloc: Global, words: &mut Vec<String>, text: &str) -> Result<(), 
     Ok(())
 }
 
-fn words_of(alloc: Global, first: &str, rest: &str) -> Result<Vec<String>, Memory> {
+pub fn words_of(alloc: Global, first: &str, rest: &str) -> Result<Vec<String>, Memory> {
     let mut words = Vec::new(alloc);
     push_words(alloc, &mut words, first)?;
     push_words(alloc, &mut words, rest)?;
@@ -42,7 +42,7 @@ fn samples_of(alloc: Global, grey: usize, black: usize) -> Result<Octets, Memory
     Ok(samples)
 }
 
-fn run_on<T: Threads + Sync>(
+pub fn run_on<T: Threads + Sync>(
     threads: &T,
     alloc: Global,
     words: &[String],

@@ -5,3 +5,5 @@
 mod bodies;
 #[cfg(test)]
 mod commands;
+#[cfg(test)]
+mod readers;

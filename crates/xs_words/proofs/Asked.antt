@@ -1,18 +1,13 @@
 -- The check of settings whose numbers have room in their fields refuses what a check of the numbers that were asked for refuses.
-use Rattle.std.proofs.Common.{◌≡◌, ℕ, ◌^◌, ◌-◌, ◌||◌, Bool, true, false, cond, ltb, List, [], ◌∷◌, ◌++◌, Option, Some, None, map, take, drop, suc, min, refl, sym, ap, ◌∙◌, arith}
+use Rattle.std.proofs.Common.{◌≡◌, ℕ, ◌^◌, ◌-◌, ◌||◌, Bool, true, false, cond, ltb, List, [], ◌∷◌, ◌++◌, Option, Some, map, take, drop, suc, min, refl, sym, ap, ◌∙◌, arith}
 use Rattle.std.specs.Option.{option_map}
 use Rattle.std.proofs.lemmas.Bool.Decides.{nat_tests}
-use Rattle.xs_lists.specs.First.{first_of, first_some}
+use Rattle.xs_lists.specs.First.{first_of}
 use Rattle.xs_layout.specs.Geometry.{narrowest_width}
 use Rattle.xs_params.specs.Check.{is_outside, most_across, most_down, refused, setting_refusals, slices_of}
 use Rattle.xs_params.specs.declared.settings.Settings.{Settings}
-use Rattle.xs_params.specs.declared.settings.Setting.{Setting}
 use Rattle.xs_params.specs.declared.settings.Field.TheVariants.{Nlx, Nly, Hsl}
 use Rattle.xs_words.specs.Narrow.{as_asked, narrowed}
-use Rattle.xs_words.specs.Words.{bad_place}
-use Rattle.xs_words.specs.Command.{settings_of}
-use Rattle.xs_words.specs.Refusal.{refusal_of}
-use Rattle.xs_words.specs.declared.command.Refusal.TheVariants as refusal
 
 step_of : {A : Type 0} (f : A → A) (test : Bool) (answer : A) (rest : Option A) → option_map f (cond test (Some answer) rest) ≡ cond test (Some (f answer)) (option_map f rest)
 step_of f true answer rest = refl
@@ -64,14 +59,6 @@ asked_by s true true false p q r =
     ∙ sym (first_of-map (as_asked s) (take 5 (setting_refusals s) ++ (true, refused Hsl 0) ∷ []))
 asked_by s true true true p q r = sym (first_of-map (as_asked s) (setting_refusals s))
 
-refused_as_asked : (s : Settings) → first_of (setting_refusals s) ≡ option_map (as_asked s) (first_of (setting_refusals (narrowed s)))
+-- the check of the narrowed settings refuses what a check of the settings would
+pub refused_as_asked : (s : Settings) → first_of (setting_refusals s) ≡ option_map (as_asked s) (first_of (setting_refusals (narrowed s)))
 refused_as_asked s = asked_by s (ltb s.nlx 256) (ltb s.nly 256) (ltb s.hsl 65536) refl refl refl
-
--- the answer where the check of the narrowed settings refuses one
-pub setting_refused : (words : List (List ℕ)) (s : Settings) (bad : Setting) → bad_place words ≡ None → s ≡ settings_of words → Some bad ≡ first_of (setting_refusals (narrowed s))
-    → Some (refusal.Setting (as_asked s bad)) ≡ refusal_of words
-setting_refused words s bad command same first =
-    let asked : Some (as_asked s bad) ≡ first_of (setting_refusals (settings_of words)) =
-    ap (option_map (as_asked s)) first ∙ sym (refused_as_asked s) ∙ ap (λ t. first_of (setting_refusals t)) same in
-    ap (λ x. first_some (None ∷ option_map refusal.Setting x ∷ [])) asked
-    ∙ ap (λ place. first_some (option_map refusal.Words place ∷ option_map refusal.Setting (first_of (setting_refusals (settings_of words))) ∷ [])) (sym command)

@@ -1,5 +1,5 @@
 -- The first bad word stands near the front: there are no more different names than rows.
-use Rattle.std.proofs.Common.{◌≡◌, ◌≢◌, ℕ, zero, suc, ◌+◌, ◌*◌, ◌/◌, ◌<◌, ◌≤◌, Bool, true, false, cond, ◌||◌, eqb, List, Option, Some, None, map, length, get_or, refl, sym, ap, ◌∙◌, bytes_eq, ◌&&◌, inl, inr, arith}
+use Rattle.std.proofs.Common.{◌≡◌, ◌≢◌, ℕ, zero, suc, ◌+◌, ◌*◌, ◌/◌, ◌<◌, ◌≤◌, Bool, true, false, cond, ◌||◌, eqb, List, Option, Some, None, map, length, get_or, refl, sym, ap, ◌∙◌, bytes_eq, codes, ◌&&◌, inl, inr, arith}
 use Rattle.std.specs.Prelude.{is_none, IfSome}
 use Rattle.std.specs.List.{AllByRecursion, IsDistinct, find, list_any, position_or_len, range_with_len}
 use Rattle.std.proofs.lemmas.Bool.Decides.{eqb_tells, leb_tells, nat_tests}
@@ -11,8 +11,8 @@ use Rattle.std.proofs.lemmas.Map.Steps.{length-le_from_distinct_below}
 use Rattle.std.proofs.lemmas.Option.{slice_get_past}
 use Rattle.std.proofs.lemmas.Slice.Eq.{bytes_eq-Decides}
 use Rattle.xs_lists.specs.Spelling.{upto}
-use Rattle.xs_words.specs.Table.{Row, encode_rows, form}
-use Rattle.xs_words.specs.Words.{bad_place, is_bad_name, is_bad_value, is_name_at, is_name_place, is_named_before, name_word, row_named, word_at}
+use Rattle.xs_words.specs.Table.{Row, decode_rows, encode_rows, form}
+use Rattle.xs_words.specs.Words.{bad_place, is_bad_name, is_bad_value, is_name_at, is_name_place, is_named_before, name_word, row_named, table_of, word_at}
 use Rattle.xs_words.proofs.Places.{stop}
 use Rattle.xs_words.proofs.BadPlace.{good_before}
 use Rattle.xs_words.proofs.Given.{neither}
@@ -21,8 +21,8 @@ use Rattle.xs_words.proofs.Given.{neither}
 abbrev names : List ℕ → Row → Bool
 names word row = bytes_eq word (name_word row.name)
 
-abbrev seat_of : List ℕ → ℕ
-seat_of word = position_or_len (names word) encode_rows
+abbrev seat_of : List Row → List ℕ → ℕ
+seat_of table word = position_or_len (names word) table
 
 position-below : {A : Type 0} (test : A → Bool) (xs : List A) → is_none (find test xs) ≡ false → position_or_len test xs < length xs
 position-below test xs known =
@@ -33,15 +33,15 @@ position-below test xs known =
       | inr within ↦ within.1
     ]
 
-seat-below : (word : List ℕ) → is_none (row_named encode_rows word) ≡ false → seat_of word < length encode_rows
-seat-below word known = position-below (names word) encode_rows known
+seat-below : (table : List Row) (word : List ℕ) → is_none (row_named table word) ≡ false → seat_of table word < length table
+seat-below table word known = position-below (names word) table known
 
-same_seat : (word other : List ℕ) → is_none (row_named encode_rows word) ≡ false → is_none (row_named encode_rows other) ≡ false → seat_of word ≡ seat_of other → word ≡ other
-same_seat word other known also same =
-    let row = get_or encode_rows (seat_of word) form in
-    let first = (bytes_eq-Decides word (name_word row.name)).0 (passes_at_first (names word) encode_rows form (seat-below word known)) in
-    let second = (bytes_eq-Decides other (name_word (get_or encode_rows (seat_of other) form).name)).0 (passes_at_first (names other) encode_rows form (seat-below other also)) in
-    first ∙ ap (λ i. name_word (get_or encode_rows i form).name) same ∙ sym second
+same_seat : (table : List Row) (word other : List ℕ) → is_none (row_named table word) ≡ false → is_none (row_named table other) ≡ false → seat_of table word ≡ seat_of table other → word ≡ other
+same_seat table word other known also same =
+    let row = get_or table (seat_of table word) form in
+    let first = (bytes_eq-Decides word (name_word row.name)).0 (passes_at_first (names word) table form (seat-below table word known)) in
+    let second = (bytes_eq-Decides other (name_word (get_or table (seat_of table other) form).name)).0 (passes_at_first (names other) table form (seat-below table other also)) in
+    first ∙ ap (λ i. name_word (get_or table i form).name) same ∙ sym second
 
 apart_from : (f : ℕ → ℕ) (low n x : ℕ) → ((k : ℕ) → low ≤ k → k < low + n → x ≢ f k) → AllByRecursion (λ y. eqb x y ≡ false) (map f (range_with_len low n))
 apart_from f low zero x apart = tt
@@ -86,13 +86,13 @@ chosen : (b x y : Bool) → b ≡ true → cond b x y ≡ x
 chosen true x y e = refl
 chosen false x y e = cc
 
-good_name : (words : List (List ℕ)) (j : ℕ) → 2 * j + 1 < stop (length words) (bad_place words)
-    → (is_none (row_named encode_rows (word_at words (2 * j + 1))) ≡ false) × (is_named_before words (word_at words (2 * j + 1)) (2 * j + 1) ≡ false)
-good_name words j below =
+good_name : (words : List (List ℕ)) (table : List Row) → table_of (word_at words 0) ≡ Some table → (j : ℕ) → 2 * j + 1 < stop (length words) (bad_place words)
+    → (is_none (row_named table (word_at words (2 * j + 1))) ≡ false) × (is_named_before words (word_at words (2 * j + 1)) (2 * j + 1) ≡ false)
+good_name words table t j below =
     let place = 2 * j + 1 in
-    let good = good_before words place (omega arith) below in
-    let name = sym (chosen (is_name_place place) (is_bad_name encode_rows words place) (is_bad_value encode_rows words place) (name_place-odd j)) ∙ good in
-    neither (is_none (row_named encode_rows (word_at words place))) (is_named_before words (word_at words place) place) name
+    let good = good_before words table t place (omega arith) below in
+    let name = sym (chosen (is_name_place place) (is_bad_name table words place) (is_bad_value table words place) (name_place-odd j)) ∙ good in
+    neither (is_none (row_named table (word_at words place))) (is_named_before words (word_at words place) place) name
 
 -- a name that stands earlier is named before
 named_before : (words : List (List ℕ)) (j k : ℕ) → j < k → word_at words (2 * j + 1) ≡ word_at words (2 * k + 1) → is_named_before words (word_at words (2 * k + 1)) (2 * k + 1) ≡ true
@@ -106,24 +106,34 @@ named_before words j k above same =
     let named : test (2 * j + 1) ≡ true = ap (λ b. b && bytes_eq (word_at words (2 * j + 1)) word) (name_place-odd j) ∙ spelled in
     or_at (list_any test) test refl (λ _ _. refl) (upto (2 * k + 1)) (2 * j + 1) 0 there (ap test at ∙ named)
 
-names_apart : (words : List (List ℕ)) (j k : ℕ) → j < k → 2 * k + 1 < stop (length words) (bad_place words)
-    → seat_of (word_at words (2 * j + 1)) ≢ seat_of (word_at words (2 * k + 1))
-names_apart words j k above below same =
-    let first = good_name words j (omega arith) in
-    let second = good_name words k below in
-    let repeated = named_before words j k above (same_seat (word_at words (2 * j + 1)) (word_at words (2 * k + 1)) first.0 second.0 same) in
+names_apart : (words : List (List ℕ)) (table : List Row) → table_of (word_at words 0) ≡ Some table → (j k : ℕ) → j < k → 2 * k + 1 < stop (length words) (bad_place words)
+    → seat_of table (word_at words (2 * j + 1)) ≢ seat_of table (word_at words (2 * k + 1))
+names_apart words table t j k above below same =
+    let first = good_name words table t j (omega arith) in
+    let second = good_name words table t k below in
+    let repeated = named_before words j k above (same_seat table (word_at words (2 * j + 1)) (word_at words (2 * k + 1)) first.0 second.0 same) in
     let once = second.1 in
     cc
 
-near-where : (words : List (List ℕ)) (found : Option ℕ) → bad_place words ≡ found → IfSome found (λ place. place ≤ 19)
-near-where words None e = tt
-near-where words (Some place) e =
+-- each table has at most nine rows
+few_rows : (word : List ℕ) (table : List Row) → table_of word ≡ Some table → length table ≤ 9
+few_rows word table = by_name (bytes_eq word (codes "encode")) (bytes_eq word (codes "decode"))
+  where
+    by_name : (encode decode : Bool) → cond encode (Some encode_rows) (cond decode (Some decode_rows) None) ≡ Some table → length table ≤ 9
+    by_name true decode e = let same : encode_rows ≡ table = cc in omega (arith, ap length same)
+    by_name false true e = let same : decode_rows ≡ table = cc in omega (arith, ap length same)
+    by_name false false e = absurd (cc)
+
+near-where : (words : List (List ℕ)) (table : List Row) → table_of (word_at words 0) ≡ Some table → (found : Option ℕ) → bad_place words ≡ found → IfSome found (λ place. place ≤ 19)
+near-where words table t None e = tt
+near-where words table t (Some place) e =
     let end : stop (length words) (bad_place words) ≡ place = ap (stop (length words)) e in
-    let few = pigeons (λ j. seat_of (word_at words (2 * j + 1))) 9 (place / 2)
-    (λ k below. seat-below (word_at words (2 * k + 1)) (good_name words k (omega arith)).0)
-    (λ j k above below. names_apart words j k above (omega arith)) in
+    let most = few_rows (word_at words 0) table t in
+    let few = pigeons (λ j. seat_of table (word_at words (2 * j + 1))) (length table) (place / 2)
+    (λ k below. seat-below table (word_at words (2 * k + 1)) (good_name words table t k (omega arith)).0)
+    (λ j k above below. names_apart words table t j k above (omega arith)) in
     omega arith
 
--- the first bad word is one of the first twenty
-pub near : (words : List (List ℕ)) → IfSome (bad_place words) (λ place. place ≤ 19)
-near words = near-where words (bad_place words) refl
+-- the first bad word of a command is one of the first twenty
+pub near : (words : List (List ℕ)) (table : List Row) → table_of (word_at words 0) ≡ Some table → IfSome (bad_place words) (λ place. place ≤ 19)
+near words table t = near-where words table t (bad_place words) refl

@@ -5,3 +5,4 @@ mod BadPlace
 mod Given
 mod Asked
 mod Bound
+mod Refused

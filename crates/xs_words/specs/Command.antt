@@ -1,11 +1,13 @@
--- The settings that a command asks for: 'Command words'. Their numbers may be too large for their fields.
-use Rattle.std.specs.Prelude.{ℕ, false, None, List, []}
+-- What a command asks for: 'Command words'. The numbers of settings may be too large for their fields.
+use Rattle.std.specs.Prelude.{ℕ, false, if◌then◌else◌, None, List, [], codes, bytes_eq}
 use Rattle.xs_layout.specs.declared.Format.TheVariants.{Mono}
 use Rattle.xs_layout.specs.declared.Quant.TheVariants.{DeadZone}
 use Rattle.xs_params.specs.declared.settings.Settings.{Settings}
 use Rattle.xs_words.specs.Table.{Row}
 use Rattle.xs_words.specs.Table as option
-use Rattle.xs_words.specs.Words.{number_of, value_of}
+use Rattle.xs_words.specs.Words.{number_of, value_of, word_at}
+use Rattle.xs_words.specs.declared.command.Command.{Command}
+use Rattle.xs_words.specs.declared.command.Command.TheVariants.{Encode, Decode}
 
 -- the settings of these numbers, with the defaults for all that has no word, or one word alone
 abbrev pub settings_with : (width height nlx nly slice share : ℕ) → Settings
@@ -36,3 +38,7 @@ given_number words row = number_of (value_of words row)
 abbrev pub settings_of : List (List ℕ) → Settings
 settings_of words =
     settings_with (given_number words option.width) (given_number words option.height) (given_number words option.nlx) (given_number words option.nly) (given_number words option.slice) (given_number words option.share)
+
+-- what words that are a command ask for
+abbrev pub command_of : List (List ℕ) → Command
+command_of words = if bytes_eq (word_at words 0) (codes "decode") then Decode else Encode (settings_of words)

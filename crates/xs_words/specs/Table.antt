@@ -1,4 +1,4 @@
--- The options of the command `encode`: 'Command words'.
+-- The options of each command: 'Command words'.
 use Rattle.std.specs.Prelude.{ℕ, Option, None, Some, List, [], ◌∷◌, codes}
 
 -- the value of an option is a number, or one of some words
@@ -48,3 +48,6 @@ slice = number (codes "slice") (codes "4")
 
 abbrev pub encode_rows : List Row
 encode_rows = form ∷ width ∷ height ∷ format ∷ nlx ∷ nly ∷ quant ∷ share ∷ slice ∷ []
+
+abbrev pub decode_rows : List Row
+decode_rows = form ∷ []

@@ -1,19 +1,31 @@
-// The settings that a command asks for.
-ghost use Rattle.std.specs.Prelude.{◌≡◌, None, IfOk, map, true};
+// What a command asks for.
+ghost use Rattle.std.specs.Prelude.{◌≡◌, None, Some, IfOk, map, true};
 ghost use Rattle.std.specs.Result.{result_err};
 ghost use Rattle.std.specs.String.{string_bytes};
-ghost use Rattle.xs_words.specs.Command.{given_number, settings_of, settings_with};
+ghost use Rattle.xs_lists.specs.First.{first_of};
+ghost use Rattle.xs_params.specs.Check.{setting_refusals};
+ghost use Rattle.xs_words.specs.Command.{command_of, given_number, settings_of, settings_with};
 ghost use Rattle.xs_words.specs.Narrow.{as_asked, narrowed};
 ghost use Rattle.xs_words.specs.Options.{row_of};
 ghost use Rattle.xs_words.specs.Refusal.{refusal_of};
-ghost use Rattle.xs_words.specs.Words.{bad_place, is_number, value_of};
+ghost use Rattle.xs_words.specs.Table.{encode_rows};
+ghost use Rattle.xs_words.specs.Words.{bad_place, is_number, table_of, value_of, word_at};
 
-use crate::grammar::{bad_place, value_of};
-use crate::option::{EncodeOption, number};
+use crate::grammar::{bad_place, value_of, verb_of};
+use crate::option::{CommandOption, Verb, number};
 use std::alloc::Global;
 use thiserror::Error;
 use xs_io::Octets;
 use xs_params::{Checked, Field, Format, Quant, Setting, Settings, Shape};
+
+/// What words ask for.
+#[derive(Debug, Drop)]
+pub enum Command {
+    /// One raw picture is to become a codestream, with these settings.
+    Encode(Checked),
+    /// One codestream is to become a raw picture.
+    Decode,
+}
 
 /// Why a command is refused.
 #[derive(Clone, Copy, Debug, PartialEq, Eq, Error)]
@@ -26,20 +38,39 @@ pub enum Refusal {
     Setting(Setting),
 }
 
-/// The settings that a command asks for, checked. The words are those after the program's name.
-pub fn checked_settings(alloc: Global, words: &[String]) -> Result<Checked, Refusal>
+/// The command that the words are, its settings checked. The words are those after the program's name.
+pub fn command_of(alloc: Global, words: &[String]) -> Result<Command, Refusal>
     ensures refused { result_err result ≡ refusal_of (map string_bytes words.now) }
-    ensures settings { IfOk result (λ checked. checked ≡ settings_of (map string_bytes words.now)) }
+    ensures asked { IfOk result (λ command. command ≡ command_of (map string_bytes words.now)) }
 {
-    if let Some(place) = bad_place(words) {
+    let Some(verb) = verb_of(words) else {
+        return Err(Refusal::Words { place: 0 });
+    };
+    if let Some(place) = bad_place(verb, words) {
         return Err(Refusal::Words {
             place: place as u32,
         });
     }
+    match verb {
+        Verb::Encode => match checked_settings(alloc, words) {
+            Ok(settings) => Ok(Command::Encode(settings)),
+            Err(setting) => Err(Refusal::Setting(setting)),
+        },
+        Verb::Decode => Ok(Command::Decode),
+    }
+}
+
+/// The settings that words ask for, checked; or the first that is refused, with the value that was asked for.
+fn checked_settings(alloc: Global, words: &[String]) -> Result<Checked, Setting>
+    requires encode { table_of (word_at (map string_bytes words.now) 0) ≡ Some encode_rows }
+    requires whole { bad_place (map string_bytes words.now) ≡ None }
+    ensures refused { result_err result ≡ first_of (setting_refusals (settings_of (map string_bytes words.now))) }
+    ensures settings { IfOk result (λ checked. checked ≡ settings_of (map string_bytes words.now)) }
+{
     let numbers = Numbers::given(words);
     match numbers.settings(alloc).check() {
         Ok(checked) => Ok(checked),
-        Err(setting) => Err(Refusal::Setting(numbers.as_asked(setting))),
+        Err(setting) => Err(numbers.as_asked(setting)),
     }
 }
 
@@ -56,15 +87,16 @@ struct Numbers {
 
 impl Numbers {
     fn given(words: &[String]) -> Numbers
-        requires { bad_place (map string_bytes words.now) ≡ None }
+        requires encode { table_of (word_at (map string_bytes words.now) 0) ≡ Some encode_rows }
+        requires whole { bad_place (map string_bytes words.now) ≡ None }
         ensures { settings_with result.width result.height result.nlx result.nly result.slice result.share ≡ settings_of (map string_bytes words.now) }
     {
-        let width = given_number(words, EncodeOption::Width);
-        let height = given_number(words, EncodeOption::Height);
-        let nlx = given_number(words, EncodeOption::Nlx);
-        let nly = given_number(words, EncodeOption::Nly);
-        let slice = given_number(words, EncodeOption::Slice);
-        let share = given_number(words, EncodeOption::Share);
+        let width = given_number(words, CommandOption::Width);
+        let height = given_number(words, CommandOption::Height);
+        let nlx = given_number(words, CommandOption::Nlx);
+        let nly = given_number(words, CommandOption::Nly);
+        let slice = given_number(words, CommandOption::Slice);
+        let share = given_number(words, CommandOption::Share);
         Numbers {
             width,
             height,
@@ -123,7 +155,7 @@ impl Numbers {
 }
 
 /// The number that an option is given, or has by default.
-fn given_number(words: &[String], option: EncodeOption) -> u32
+fn given_number(words: &[String], option: CommandOption) -> u32
     requires { is_number (value_of (map string_bytes words.now) (row_of option)) ≡ true }
     ensures { result ≡ given_number (map string_bytes words.now) (row_of option) }
 {

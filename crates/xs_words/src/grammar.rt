@@ -1,23 +1,28 @@
 // Which words are a command.
-ghost use Rattle.std.specs.Prelude.{◌≡◌, ◌<◌, find, length, map, IfSome};
+ghost use Rattle.std.specs.Prelude.{◌≡◌, ◌<◌, find, length, map, IfSome, Some};
+ghost use Rattle.std.specs.Option.{option_map};
 ghost use Rattle.std.specs.List.{list_any};
 ghost use Rattle.std.specs.String.{string_bytes};
-ghost use Rattle.xs_words.specs.Options.{row_of};
-ghost use Rattle.xs_words.specs.Table.{encode_rows};
-ghost use Rattle.xs_words.specs.Words.{bad_place, end_early, is_bad_name, is_bad_value, is_bad_word, is_missing, is_name_at, is_name_place, is_named_before, name_place, places_of, value_of, word_at};
+ghost use Rattle.xs_words.specs.Options.{row_of, rows_of};
+ghost use Rattle.xs_words.specs.Words.{bad_place, end_early, is_bad_name, is_bad_value, is_bad_word, is_missing, is_name_at, is_name_place, is_named_before, name_place, places_of, table_of, value_of, word_at};
 
-use crate::option::EncodeOption;
+use crate::option::{CommandOption, Verb};
 
-/// The place of the first word that is not as it should be, or the number of words where they end too early.
-pub fn bad_place(words: &[String]) -> Option<usize>
+/// The command that the first word begins.
+pub fn verb_of(words: &[String]) -> Option<Verb>
+    ensures { option_map rows_of result ≡ table_of (word_at (map string_bytes words.now) 0) }
+{
+    Verb::named(word_at(words, 0))
+}
+
+/// The place of the first word that is not as the command asks, or the number of words where they end too early.
+pub fn bad_place(verb: Verb, words: &[String]) -> Option<usize>
+    requires { table_of (word_at (map string_bytes words.now) 0) ≡ Some (rows_of verb) }
     ensures { result ≡ bad_place (map string_bytes words.now) }
 {
-    if word_at(words, 0) != "encode" {
-        return Some(0);
-    }
-    match first_bad_word(words) {
+    match first_bad_word(verb, words) {
         Some(place) => Some(place),
-        None => ends_early(words).then_some(words.len()),
+        None => ends_early(verb, words).then_some(words.len()),
     }
 }
 
@@ -32,7 +37,7 @@ fn word_at(words: &[String], place: usize) -> &str
 }
 
 /// The value of an option: the word after its name, or else its default.
-pub fn value_of(words: &[String], option: EncodeOption) -> &str
+pub fn value_of(words: &[String], option: CommandOption) -> &str
     ensures { result.now ≡ value_of (map string_bytes words.now) (row_of option) }
 {
     match name_place(words, option) {
@@ -42,58 +47,58 @@ pub fn value_of(words: &[String], option: EncodeOption) -> &str
 }
 
 /// The place of the first word after the command that is not as it should be.
-fn first_bad_word(words: &[String]) -> Option<usize>
-    ensures { result ≡ find (is_bad_word encode_rows (map string_bytes words.now)) (places_of (map string_bytes words.now)) }
+fn first_bad_word(verb: Verb, words: &[String]) -> Option<usize>
+    ensures { result ≡ find (is_bad_word (rows_of verb) (map string_bytes words.now)) (places_of (map string_bytes words.now)) }
 {
-    (1..words.len()).find(|place| is_bad_word(words, *place))
+    (1..words.len()).find(|place| is_bad_word(verb, words, *place))
 }
 
 /// Whether the words end where a value is missing, or without a required option.
-fn ends_early(words: &[String]) -> bool
-    ensures { result ≡ end_early encode_rows (map string_bytes words.now) }
+fn ends_early(verb: Verb, words: &[String]) -> bool
+    ensures { result ≡ end_early (rows_of verb) (map string_bytes words.now) }
 {
-    words.len() % 2 == 0 || lacks_option(words)
+    words.len() % 2 == 0 || lacks_option(verb, words)
 }
 
 /// Whether a required option is not among the words.
-fn lacks_option(words: &[String]) -> bool
-    ensures { result ≡ list_any (is_missing (map string_bytes words.now)) encode_rows }
+fn lacks_option(verb: Verb, words: &[String]) -> bool
+    ensures { result ≡ list_any (is_missing (map string_bytes words.now)) (rows_of verb) }
 {
-    EncodeOption::ALL
+    verb.options()
         .iter()
         .any(|option| is_missing(words, *option))
 }
 
-fn is_missing(words: &[String], option: EncodeOption) -> bool
+fn is_missing(words: &[String], option: CommandOption) -> bool
     ensures { result ≡ is_missing (map string_bytes words.now) (row_of option) }
 {
     option.is_required() && name_place(words, option).is_none()
 }
 
 /// The place of an option's name.
-fn name_place(words: &[String], option: EncodeOption) -> Option<usize>
+fn name_place(words: &[String], option: CommandOption) -> Option<usize>
     ensures place { result ≡ name_place (map string_bytes words.now) (row_of option).name }
     ensures within { IfSome result (λ place. place < length words.now) }
 {
     (0..words.len()).find(|place| is_name_at(words, option.word(), *place))
 }
 
-fn is_bad_word(words: &[String], place: usize) -> bool
-    ensures { result ≡ is_bad_word encode_rows (map string_bytes words.now) place }
+fn is_bad_word(verb: Verb, words: &[String], place: usize) -> bool
+    ensures { result ≡ is_bad_word (rows_of verb) (map string_bytes words.now) place }
 {
     if is_name_place(place) {
-        is_bad_name(words, place)
+        is_bad_name(verb, words, place)
     } else {
-        is_bad_value(words, place)
+        is_bad_value(verb, words, place)
     }
 }
 
 /// Whether the word names no option, or one that was named before.
-fn is_bad_name(words: &[String], place: usize) -> bool
-    ensures { result ≡ is_bad_name encode_rows (map string_bytes words.now) place }
+fn is_bad_name(verb: Verb, words: &[String], place: usize) -> bool
+    ensures { result ≡ is_bad_name (rows_of verb) (map string_bytes words.now) place }
 {
     let word = word_at(words, place);
-    EncodeOption::named(word).is_none() || is_named_before(words, word, place)
+    verb.option_named(word).is_none() || is_named_before(words, word, place)
 }
 
 /// Whether the word stands as a name before the place.
@@ -104,10 +109,10 @@ fn is_named_before(words: &[String], word: &str, place: usize) -> bool
 }
 
 /// Whether the word is no value of the option before it.
-fn is_bad_value(words: &[String], place: usize) -> bool
-    ensures { result ≡ is_bad_value encode_rows (map string_bytes words.now) place }
+fn is_bad_value(verb: Verb, words: &[String], place: usize) -> bool
+    ensures { result ≡ is_bad_value (rows_of verb) (map string_bytes words.now) place }
 {
-    match EncodeOption::named(word_at(words, place.saturating_sub(1))) {
+    match verb.option_named(word_at(words, place.saturating_sub(1))) {
         Some(option) => !option.takes(word_at(words, place)),
         None => true,
     }

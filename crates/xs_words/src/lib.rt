@@ -1,4 +1,4 @@
-//! The words of a command: whether they are one, and the settings that they ask for.
+//! The words of a command: whether they are one, and what they ask for.
 #![tactic(auto)]
 
 mod command;
@@ -7,4 +7,4 @@ mod option;
 #[cfg(test)]
 mod tests;
 
-pub use command::{Refusal, checked_settings};
+pub use command::{Command, Refusal, command_of};

@@ -1,14 +1,55 @@
-// The options of the command `encode`.
-ghost use Rattle.std.specs.Prelude.{◌≡◌, ◌++◌, codes, if◌then◌else◌, None, Some, is_none, unwrap_or, []};
+// Commands and their options.
+ghost use Rattle.std.specs.Prelude.{◌≡◌, ◌++◌, codes, if◌then◌else◌, None, Some, is_none, map, unwrap_or, []};
 ghost use Rattle.std.specs.Option.{option_map};
 ghost use Rattle.std.specs.Str.{all_ascii_digits};
-ghost use Rattle.xs_words.specs.Options.{row_of};
-ghost use Rattle.xs_words.specs.Table.{encode_rows};
-ghost use Rattle.xs_words.specs.Words.{is_number, is_value, name_word, number_of, row_named};
+ghost use Rattle.xs_words.specs.Options.{row_of, rows_of};
+ghost use Rattle.xs_words.specs.Words.{is_number, is_value, name_word, number_of, row_named, table_of};
 
-/// An option of the command `encode`.
+/// What a command does: its first word.
 #[derive(Clone, Copy, Debug, PartialEq, Eq)]
-pub enum EncodeOption {
+pub enum Verb {
+    Encode,
+    Decode,
+}
+
+impl Verb {
+    /// The command that a word begins.
+    pub fn named(word: &str) -> Option<Verb>
+        ensures { option_map rows_of result ≡ table_of word.now }
+    {
+        if word == "encode" {
+            Some(Verb::Encode)
+        } else if word == "decode" {
+            Some(Verb::Decode)
+        } else {
+            None
+        }
+    }
+
+    /// The options of the command.
+    pub fn options(self) -> &'static [CommandOption]
+        ensures { map row_of result.now ≡ rows_of self }
+    {
+        match self {
+            Verb::Encode => &CommandOption::ENCODE,
+            Verb::Decode => &CommandOption::DECODE,
+        }
+    }
+
+    /// The option that a word names.
+    pub fn option_named(self, word: &str) -> Option<CommandOption>
+        ensures { option_map row_of result ≡ row_named (rows_of self) word.now }
+    {
+        self.options()
+            .iter()
+            .find(|option| word == option.word())
+            .copied()
+    }
+}
+
+/// An option of a command.
+#[derive(Clone, Copy, Debug, PartialEq, Eq)]
+pub enum CommandOption {
     Form,
     Width,
     Height,
@@ -20,43 +61,35 @@ pub enum EncodeOption {
     Slice,
 }
 
-impl EncodeOption {
-    pub const ALL: [EncodeOption; 9] = [
-        EncodeOption::Form,
-        EncodeOption::Width,
-        EncodeOption::Height,
-        EncodeOption::Format,
-        EncodeOption::Nlx,
-        EncodeOption::Nly,
-        EncodeOption::Quant,
-        EncodeOption::Share,
-        EncodeOption::Slice,
+impl CommandOption {
+    const ENCODE: [CommandOption; 9] = [
+        CommandOption::Form,
+        CommandOption::Width,
+        CommandOption::Height,
+        CommandOption::Format,
+        CommandOption::Nlx,
+        CommandOption::Nly,
+        CommandOption::Quant,
+        CommandOption::Share,
+        CommandOption::Slice,
     ];
 
-    /// The option that a word names.
-    pub fn named(word: &str) -> Option<EncodeOption>
-        ensures { option_map row_of result ≡ row_named encode_rows word.now }
-    {
-        EncodeOption::ALL
-            .iter()
-            .find(|option| word == option.word())
-            .copied()
-    }
+    const DECODE: [CommandOption; 1] = [CommandOption::Form];
 
     /// The word that names the option.
     pub fn word(self) -> &'static str
         ensures { result.now ≡ name_word (row_of self).name }
     {
         match self {
-            EncodeOption::Form => "--form",
-            EncodeOption::Width => "--width",
-            EncodeOption::Height => "--height",
-            EncodeOption::Format => "--format",
-            EncodeOption::Nlx => "--nlx",
-            EncodeOption::Nly => "--nly",
-            EncodeOption::Quant => "--quant",
-            EncodeOption::Share => "--share",
-            EncodeOption::Slice => "--slice",
+            CommandOption::Form => "--form",
+            CommandOption::Width => "--width",
+            CommandOption::Height => "--height",
+            CommandOption::Format => "--format",
+            CommandOption::Nlx => "--nlx",
+            CommandOption::Nly => "--nly",
+            CommandOption::Quant => "--quant",
+            CommandOption::Share => "--share",
+            CommandOption::Slice => "--slice",
         }
     }
 
@@ -64,7 +97,7 @@ impl EncodeOption {
     pub fn is_required(self) -> bool
         ensures { result ≡ is_none (row_of self).default }
     {
-        self != EncodeOption::Slice
+        self != CommandOption::Slice
     }
 
     /// The value of the option where it is not given.
@@ -72,7 +105,7 @@ impl EncodeOption {
         ensures { result.now ≡ unwrap_or (row_of self).default [] }
     {
         match self {
-            EncodeOption::Slice => "4",
+            CommandOption::Slice => "4",
             _ => "",
         }
     }
@@ -82,15 +115,15 @@ impl EncodeOption {
         ensures { result ≡ is_value (row_of self).kind value.now }
     {
         match self {
-            EncodeOption::Form => value == "xs",
-            EncodeOption::Format => value == "mono",
-            EncodeOption::Quant => value == "deadzone",
-            EncodeOption::Width
-            | EncodeOption::Height
-            | EncodeOption::Nlx
-            | EncodeOption::Nly
-            | EncodeOption::Share
-            | EncodeOption::Slice => number(value).is_some(),
+            CommandOption::Form => value == "xs",
+            CommandOption::Format => value == "mono",
+            CommandOption::Quant => value == "deadzone",
+            CommandOption::Width
+            | CommandOption::Height
+            | CommandOption::Nlx
+            | CommandOption::Nly
+            | CommandOption::Share
+            | CommandOption::Slice => number(value).is_some(),
         }
     }
 }

@@ -1,5 +1,5 @@
 // Words and what is answered to them.
-use crate::{Refusal, checked_settings};
+use crate::{Command, Refusal, command_of};
 use std::alloc::{AllocError, Global};
 use std::test::Fail;
 use xs_params::{Field, Setting};
@@ -26,7 +26,14 @@ fn setting(field: Field, value: u64) -> Option<Refusal> {
 fn answers_words(rt: HostRuntime) -> Result<(), Fail> {
     let rows = [
         ("", words(0)),
-        ("decode", words(0)),
+        ("trial", words(0)),
+        ("decode", words(1)),
+        ("decode --form", words(2)),
+        ("decode --form rtp", words(2)),
+        ("decode --form xs --workers 4", words(3)),
+        ("decode --form xs --form xs", words(3)),
+        ("decode --share 400", words(1)),
+        ("decode --form xs", None),
         ("--help", words(0)),
         ("encode", words(1)),
         ("encode --width 31", words(3)),
@@ -62,7 +69,7 @@ fn answers_words(rt: HostRuntime) -> Result<(), Fail> {
     for (text, answer) in rows {
         let list = words_of(rt.alloc(), text)?;
         assert_eq!(rt;
-            checked_settings(rt.alloc(), list.as_slice()).err(),
+            command_of(rt.alloc(), list.as_slice()).err(),
             answer,
             "{text}"
         );
@@ -158,7 +165,7 @@ fn answers_settings(rt: HostRuntime) -> Result<(), Fail> {
             list.push(word)?;
         }
         assert_eq!(rt;
-            checked_settings(rt.alloc(), list.as_slice()).err(),
+            command_of(rt.alloc(), list.as_slice()).err(),
             answer,
             "{text}"
         );
@@ -171,9 +178,12 @@ fn reads_settings(rt: HostRuntime) -> Result<(), Fail> {
     let text =
         "encode --share 500 --slice 3 --quant deadzone --nly 0 --nlx 1 --format mono --height 9 --width 48 --form xs";
     let list = words_of(rt.alloc(), text)?;
-    let checked = checked_settings(rt.alloc(), list.as_slice())
+    let command = command_of(rt.alloc(), list.as_slice())
         .ok()
         .ok_or("refused")?;
+    let Command::Encode(checked) = command else {
+        return Err("no encoding".into());
+    };
     let settings = checked.settings();
     assert_eq!(rt; settings.shape.width, 48);
     assert_eq!(rt; settings.shape.height, 9);

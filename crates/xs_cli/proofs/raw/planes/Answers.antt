@@ -24,7 +24,7 @@ set_row-requires-clause-width c =
     let within = row_within c.rows.row shape.width shape.height _ (omega (arith, c.rows-test.true)) size in
     let start : ℕ = c.rows.row * shape.width in
     let wide : start + shape.width - start ≡ shape.width = omega arith in
-    ap length (c.as_slice.ensures.value ∙ c.in_ok-samples.ensures.items) ∙ ap (λ n. length (take n (drop start c.args.bytes.now))) wide
+    ap length (c.as_slice.ensures.value ∙ c.in_ok-widen.ensures.items) ∙ ap (λ n. length (take n (drop start c.args.bytes.now))) wide
     ∙ length-take-le shape.width (drop start c.args.bytes.now) (omega (arith, within, length-drop start c.args.bytes.now))
     ∙ sym (ap (λ (s : Shape). width_of s 0) c.rows.invariant.shape ∙ mono_width shape c.requires.mono)
 
@@ -35,7 +35,7 @@ rows-preserved c =
     let within = row_within c.rows.row shape.width shape.height _ (omega (arith, c.rows-test.true)) size in
     let start : ℕ = c.rows.row * shape.width in
     let wide : start + shape.width - start ≡ shape.width = omega arith in
-    let row_is = c.as_slice.ensures.value ∙ c.in_ok-samples.ensures.items ∙ ap (λ n. take n (drop start c.args.bytes.now)) wide in
+    let row_is = c.as_slice.ensures.value ∙ c.in_ok-widen.ensures.items ∙ ap (λ n. take n (drop start c.args.bytes.now)) wide in
     record {
       shape = ap (λ (p : Picture). p.shape) c.set_row.ensures.set ∙ c.rows.invariant.shape;
       samples = ap (λ (p : Picture). p.samples) c.set_row.ensures.set

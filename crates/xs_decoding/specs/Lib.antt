@@ -1,0 +1,4 @@
+pub mod Dequantised
+pub mod Decoded
+pub mod Built
+pub mod Laws

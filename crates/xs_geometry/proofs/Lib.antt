@@ -1,0 +1,10 @@
+pub mod Types
+pub mod Counts
+pub mod Places
+pub mod Filtered
+pub mod PlaceFacts
+pub mod PlaceNumbers
+pub mod PacketLines
+pub mod Kept
+pub mod Blanks
+pub mod WrittenRows

@@ -1,0 +1,5 @@
+use Rattle.xs_geometry.proofs.PacketLines as packets
+use Rattle.xs_geometry.proofs.slice_has_lines.Goals as goal
+
+pub returns : goal.returns
+returns c = packets.slice_has_lines

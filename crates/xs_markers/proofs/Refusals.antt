@@ -1,0 +1,62 @@
+-- Refusals in an order, of which none holds.
+use Rattle.std.proofs.Common.{◌≡◌, ℕ, ◌≤◌, Bool, true, false, not, ◌||◌, nat_eq, nat_lt, if◌then◌else◌, List, [], ◌∷◌, Option, Some, None, is_some, refl, sym, ap, ◌∙◌, arith}
+use Rattle.std.specs.List.{AllByRecursion}
+use Rattle.std.proofs.lemmas.Bool.{or_parts, or_from, ltb-false, le-ltb, eqb-true, eq-eqb, not_from_true, true_from_ne_false, true≢false}
+use Rattle.xs_lists.specs.First.{first_some}
+use Rattle.xs_faults.specs.declared.HeadFault.TheVariants.{Unsupported}
+use Rattle.xs_markers.specs.declared.rows.Row.{Row}
+use Rattle.xs_markers.specs.Reading.{fields_fault}
+
+pub some_none : {A : Type 0} (x : A) → Some x ≡ None → ⊥
+some_none x e = let one : ◌≡◌ {A = ℕ} 1 0 = ap (λ o. if is_some o then 1 else 0) e in absurd (omega (arith, one))
+
+-- answers in an order
+
+pub passed : {A : Type 0} (first : Option A) (rest : List (Option A)) → None ≡ first → first_some (first ∷ rest) ≡ first_some rest
+passed first rest e = ap (λ o. first_some (o ∷ rest)) (sym e)
+
+pub stopped : {A : Type 0} (first : Option A) (x : A) (rest : List (Option A)) → Some x ≡ first → first_some (first ∷ rest) ≡ Some x
+stopped first x rest e = ap (λ o. first_some (o ∷ rest)) (sym e)
+
+pub none_first : {A : Type 0} (first : Option A) (rest : List (Option A)) → first_some (first ∷ rest) ≡ None → (first ≡ None) × (first_some rest ≡ None)
+none_first None rest e = (refl, e)
+none_first (Some x) rest e = absurd (some_none x e)
+
+-- rows of tests and answers
+
+pub no_row : {A : Type 0} (test : Bool) (answer : A) (rest : Option A) → (if test then Some answer else rest) ≡ None → (test ≡ false) × (rest ≡ None)
+no_row true answer rest e = absurd (some_none answer e)
+no_row false answer rest e = (refl, e)
+
+pub skipped : {A : Type 0} (test : Bool) (answer : A) (rest : Option A) → test ≡ false → rest ≡ None → (if test then Some answer else rest) ≡ None
+skipped test answer rest e f = ap (λ t. if t then Some answer else rest) e ∙ f
+
+-- tests of numbers
+
+pub is_equal : (a b : ℕ) → not (nat_eq a b) ≡ false → a ≡ b
+is_equal a b e = eqb-true a b (true_from_ne_false (nat_eq a b) (λ d. true≢false (sym (ap not d) ∙ e)))
+
+pub equal_is : (a b : ℕ) → a ≡ b → not (nat_eq a b) ≡ false
+equal_is a b e = not_from_true (nat_eq a b) (eq-eqb a b e)
+
+pub is_within : (low high value : ℕ) → (nat_lt value low || nat_lt high value) ≡ false → (low ≤ value) × (value ≤ high)
+is_within low high value e =
+    let both = or_parts (nat_lt value low) (nat_lt high value) e in
+    (ltb-false value low both.0, ltb-false high value both.1)
+
+pub within_is : (low high value : ℕ) → low ≤ value → value ≤ high → (nat_lt value low || nat_lt high value) ≡ false
+within_is low high value above below = or_from (nat_lt value low) (nat_lt high value) (le-ltb value low above) (le-ltb high value below)
+
+-- fields
+
+pub none_refused : (rows : List Row) → fields_fault rows ≡ None → AllByRecursion (λ (row : Row). row.refused ≡ false) rows
+unfolding fields_fault
+none_refused [] e = tt
+none_refused (row ∷ rows) e =
+    let both : (row.refused ≡ false) × (fields_fault rows ≡ None) = no_row row.refused (Unsupported row.field row.value) (fields_fault rows) e in
+    (both.0, none_refused rows both.1)
+
+pub refused_none : (rows : List Row) → AllByRecursion (λ (row : Row). row.refused ≡ false) rows → fields_fault rows ≡ None
+unfolding fields_fault
+refused_none [] h = refl
+refused_none (row ∷ rows) h = skipped row.refused (Unsupported row.field row.value) (fields_fault rows) h.0 (refused_none rows h.1)

@@ -1,0 +1,71 @@
+use Rattle.std.proofs.Common.{◌≡◌, [], Some, sym, ap, ◌∙◌, rules}
+use Rattle.std.specs.Result.{result_err}
+use Rattle.xs_grammar.specs.Header.{cdt_code, wgt_code}
+use Rattle.xs_markers.specs.Reading.{body_at, picture_of, picture_rows, component_rows, segment_fault, fields_fault, end_fault}
+use Rattle.xs_markers.proofs.Refusals.{passed, stopped}
+use Rattle.xs_markers.proofs.Refused.{from_components, from_weights, past_codes, past_fields, past_components}
+use Rattle.xs_markers.proofs.read.parts_of.Goals as goal
+
+pub returns-in_err-accept-clause-first : goal.returns-in_err-accept-clause-first
+returns-in_err-accept-clause-first c =
+    let bytes = c.args.bytes.now in
+    let rows : c.rows.result ≡ picture_rows (picture_of (body_at bytes 6 26)) = c.rows.ensures.rows ∙ ap picture_rows (c.of-picture.ensures.fields ∙ ap picture_of c.in_ok-segment_at-2.ensures.body) in
+    let codes = past_codes bytes c.in_ok-want_code.ensures.first c.in_ok-segment_at.ensures.first c.in_ok-segment_at-2.ensures.first in
+    let fault : result_err c.from_residual-in_err-accept.result ≡ Some c.in_err-accept.field-0.0 = search rules in
+    fault
+    ∙ sym (codes ∙ stopped (fields_fault (picture_rows (picture_of (body_at bytes 6 26)))) c.in_err-accept.field-0.0 (from_components bytes) (c.in_err-accept.ensures.first ∙ ap fields_fault rows))
+
+pub returns-in_err-component-clause-first : goal.returns-in_err-component-clause-first
+returns-in_err-component-clause-first c =
+    let bytes = c.args.bytes.now in
+    let rows : c.rows.result ≡ picture_rows (picture_of (body_at bytes 6 26)) = c.rows.ensures.rows ∙ ap picture_rows (c.of-picture.ensures.fields ∙ ap picture_of c.in_ok-segment_at-2.ensures.body) in
+    let codes = past_codes bytes c.in_ok-want_code.ensures.first c.in_ok-segment_at.ensures.first c.in_ok-segment_at-2.ensures.first in
+    let fields = past_fields bytes codes (c.in_ok-accept.ensures.first ∙ ap fields_fault rows) in
+    let fault : result_err c.from_residual-in_err-component.result ≡ Some c.in_err-component.field-0.0 = search rules in
+    fault ∙ sym (fields ∙ stopped (segment_fault bytes 34 cdt_code 4) c.in_err-component.field-0.0 _ c.in_err-component.ensures.first)
+
+pub returns-in_err-accept-2-clause-first : goal.returns-in_err-accept-2-clause-first
+returns-in_err-accept-2-clause-first c =
+    let bytes = c.args.bytes.now in
+    let rows : c.rows.result ≡ picture_rows (picture_of (body_at bytes 6 26)) = c.rows.ensures.rows ∙ ap picture_rows (c.of-picture.ensures.fields ∙ ap picture_of c.in_ok-segment_at-2.ensures.body) in
+    let more : c.component_rows.result ≡ component_rows (body_at bytes 34 4) = c.component_rows.ensures.rows ∙ ap component_rows c.in_ok-component.ensures.body in
+    let codes = past_codes bytes c.in_ok-want_code.ensures.first c.in_ok-segment_at.ensures.first c.in_ok-segment_at-2.ensures.first in
+    let fields = past_fields bytes codes (c.in_ok-accept.ensures.first ∙ ap fields_fault rows) in
+    let fault : result_err c.from_residual-in_err-accept-2.result ≡ Some c.in_err-accept-2.field-0.0 = search rules in
+    fault
+    ∙ sym (fields ∙ passed (segment_fault bytes 34 cdt_code 4) _ c.in_ok-component.ensures.first
+    ∙ stopped (fields_fault (component_rows (body_at bytes 34 4))) c.in_err-accept-2.field-0.0 (from_weights bytes) (c.in_err-accept-2.ensures.first ∙ ap fields_fault more))
+
+pub returns-in_err-weights-clause-first : goal.returns-in_err-weights-clause-first
+returns-in_err-weights-clause-first c =
+    let bytes = c.args.bytes.now in
+    let rows : c.rows.result ≡ picture_rows (picture_of (body_at bytes 6 26)) = c.rows.ensures.rows ∙ ap picture_rows (c.of-picture.ensures.fields ∙ ap picture_of c.in_ok-segment_at-2.ensures.body) in
+    let more : c.component_rows.result ≡ component_rows (body_at bytes 34 4) = c.component_rows.ensures.rows ∙ ap component_rows c.in_ok-component.ensures.body in
+    let codes = past_codes bytes c.in_ok-want_code.ensures.first c.in_ok-segment_at.ensures.first c.in_ok-segment_at-2.ensures.first in
+    let fields = past_fields bytes codes (c.in_ok-accept.ensures.first ∙ ap fields_fault rows) in
+    let components = past_components bytes fields c.in_ok-component.ensures.first (c.in_ok-accept-2.ensures.first ∙ ap fields_fault more) in
+    let fault : result_err c.from_residual-in_err-weights.result ≡ Some c.in_err-weights.field-0.0 = search rules in
+    fault ∙ sym (components ∙ stopped (segment_fault bytes 40 wgt_code 6) c.in_err-weights.field-0.0 _ c.in_err-weights.ensures.first)
+
+pub returns-in_err-want_end-clause-first : goal.returns-in_err-want_end-clause-first
+returns-in_err-want_end-clause-first c =
+    let bytes = c.args.bytes.now in
+    let rows : c.rows.result ≡ picture_rows (picture_of (body_at bytes 6 26)) = c.rows.ensures.rows ∙ ap picture_rows (c.of-picture.ensures.fields ∙ ap picture_of c.in_ok-segment_at-2.ensures.body) in
+    let more : c.component_rows.result ≡ component_rows (body_at bytes 34 4) = c.component_rows.ensures.rows ∙ ap component_rows c.in_ok-component.ensures.body in
+    let codes = past_codes bytes c.in_ok-want_code.ensures.first c.in_ok-segment_at.ensures.first c.in_ok-segment_at-2.ensures.first in
+    let fields = past_fields bytes codes (c.in_ok-accept.ensures.first ∙ ap fields_fault rows) in
+    let components = past_components bytes fields c.in_ok-component.ensures.first (c.in_ok-accept-2.ensures.first ∙ ap fields_fault more) in
+    let fault : result_err c.from_residual-in_err-want_end.result ≡ Some c.in_err-want_end.field-0.0 = search rules in
+    fault
+    ∙ sym (components ∙ passed (segment_fault bytes 40 wgt_code 6) _ c.in_ok-weights.ensures.first
+    ∙ stopped (end_fault bytes 48) c.in_err-want_end.field-0.0 [] c.in_err-want_end.ensures.first)
+
+pub returns-clause-first : goal.returns-clause-first
+returns-clause-first c =
+    let bytes = c.args.bytes.now in
+    let rows : c.rows.result ≡ picture_rows (picture_of (body_at bytes 6 26)) = c.rows.ensures.rows ∙ ap picture_rows (c.of-picture.ensures.fields ∙ ap picture_of c.in_ok-segment_at-2.ensures.body) in
+    let more : c.component_rows.result ≡ component_rows (body_at bytes 34 4) = c.component_rows.ensures.rows ∙ ap component_rows c.in_ok-component.ensures.body in
+    let codes = past_codes bytes c.in_ok-want_code.ensures.first c.in_ok-segment_at.ensures.first c.in_ok-segment_at-2.ensures.first in
+    let fields = past_fields bytes codes (c.in_ok-accept.ensures.first ∙ ap fields_fault rows) in
+    let components = past_components bytes fields c.in_ok-component.ensures.first (c.in_ok-accept-2.ensures.first ∙ ap fields_fault more) in
+    sym (components ∙ passed (segment_fault bytes 40 wgt_code 6) _ c.in_ok-weights.ensures.first ∙ passed (end_fault bytes 48) [] c.in_ok-want_end.ensures.first)

@@ -1,0 +1,133 @@
+// The fields of a picture header.
+ghost use Rattle.std.specs.Prelude.{◌≡◌, ◌*◌, length, max};
+ghost use Rattle.xs_layout.specs.Geometry.{ceil_div};
+ghost use Rattle.xs_markers.specs.Reading.{header_of, picture_of, picture_rows};
+
+use crate::numbers::{field, half_word_at, word_at};
+use crate::rows::{Row, only, within};
+use xs_faults::HeadField;
+use xs_params::{Format, Header, Quant, Shape, Weights};
+
+/// What a picture header says, by the names of its fields in ISO/IEC 21122-1. Those that have no effect are left out.
+#[derive(Clone, Copy, Debug)]
+pub struct PictureFields {
+    pub lcod: u32,
+    pub wf: u16,
+    pub hf: u16,
+    pub cw: u16,
+    pub hsl: u16,
+    pub nc: u8,
+    pub ng: u8,
+    pub ss: u8,
+    pub bw: u8,
+    pub fq: u8,
+    pub br: u8,
+    pub fslc: u8,
+    pub ppoc: u8,
+    pub cpih: u8,
+    pub nlx: u8,
+    pub nly: u8,
+    pub lh: bool,
+    pub qpih: u8,
+    pub fs: u8,
+    pub rm: u8,
+}
+
+impl PictureFields {
+    /// The fields of the body of a picture header.
+    pub fn of(body: &[u8]) -> PictureFields
+        requires size { length body.now ≡ 24 }
+        ensures fields { result ≡ picture_of body.now }
+    {
+        PictureFields {
+            lcod: word_at(body, 0),
+            wf: half_word_at(body, 8),
+            hf: half_word_at(body, 10),
+            cw: half_word_at(body, 12),
+            hsl: half_word_at(body, 14),
+            nc: body[16],
+            ng: body[17],
+            ss: body[18],
+            bw: body[19],
+            fq: field(body[20], 4, 4),
+            br: field(body[20], 4, 0),
+            fslc: field(body[21], 1, 7),
+            ppoc: field(body[21], 3, 4),
+            cpih: field(body[21], 4, 0),
+            nlx: field(body[22], 4, 4),
+            nly: field(body[22], 4, 0),
+            lh: field(body[23], 1, 7) == 1,
+            qpih: field(body[23], 2, 4),
+            fs: field(body[23], 2, 2),
+            rm: field(body[23], 2, 0),
+        }
+    }
+
+    // The number of slices.
+    fn slices(&self) -> u32
+        ensures { result ≡ ceil_div self.now.hf (max 1 self.now.hsl) }
+    {
+        let hsl = u32::from(self.hsl.max(1));
+        (u32::from(self.hf) + hsl - 1) / hsl
+    }
+
+    fn area(&self) -> u32
+        ensures { result ≡ self.now.wf * self.now.hf }
+    {
+        u32::from(self.wf) * u32::from(self.hf)
+    }
+
+    /// The fields with the values that are refused of them, in the order in which they are asked.
+    pub fn rows(&self) -> [Row; 20]
+        ensures rows { result ≡ picture_rows self.now }
+    {
+        [
+            within(HeadField::Wf, 32, 8192, u32::from(self.wf)),
+            within(HeadField::Hf, 4, 8192, u32::from(self.hf)),
+            within(HeadField::Area, 0, 1 << 24, self.area()),
+            only(HeadField::Cw, 0, u32::from(self.cw)),
+            within(HeadField::Hsl, 1, 65535, u32::from(self.hsl)),
+            only(HeadField::Nc, 1, u32::from(self.nc)),
+            only(HeadField::Ng, 4, u32::from(self.ng)),
+            only(HeadField::Ss, 8, u32::from(self.ss)),
+            only(HeadField::Bw, 20, u32::from(self.bw)),
+            only(HeadField::Fq, 8, u32::from(self.fq)),
+            only(HeadField::Br, 4, u32::from(self.br)),
+            only(HeadField::Fslc, 0, u32::from(self.fslc)),
+            only(HeadField::Ppoc, 0, u32::from(self.ppoc)),
+            only(HeadField::Cpih, 0, u32::from(self.cpih)),
+            only(HeadField::Nlx, 1, u32::from(self.nlx)),
+            only(HeadField::Nly, 0, u32::from(self.nly)),
+            within(HeadField::Slices, 0, 2047, self.slices()),
+            only(HeadField::Qpih, 0, u32::from(self.qpih)),
+            only(HeadField::Fs, 0, u32::from(self.fs)),
+            only(HeadField::Rm, 0, u32::from(self.rm)),
+        ]
+    }
+
+    /// The header with these fields, whose values were accepted, and these weights.
+    pub fn header(&self, weights: Weights) -> Header
+        ensures header { result ≡ header_of self.now weights }
+    {
+        Header {
+            lcod: self.lcod,
+            shape: Shape {
+                width: u32::from(self.wf),
+                height: u32::from(self.hf),
+                format: Format::Mono,
+                depth: 8,
+            },
+            hsl: self.hsl,
+            bw: self.bw,
+            fq: self.fq,
+            colour: false,
+            nlx: self.nlx,
+            nly: self.nly,
+            long_heads: self.lh,
+            quant: Quant::DeadZone,
+            signs_apart: false,
+            run_mode: self.rm,
+            weights,
+        }
+    }
+}

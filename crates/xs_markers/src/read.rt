@@ -1,0 +1,166 @@
+// Reading a header.
+ghost use Rattle.std.specs.Prelude.{◌≡◌, ◌≢◌, ◌⊎◌, ◌+◌, ◌^◌, ◌<◌, ◌≤◌, ℕ, Some, IfOk, IfErr, length, take, drop};
+ghost use Rattle.std.specs.Result.{result_err};
+ghost use Rattle.xs_lists.specs.Spelling.{BeginsWith};
+ghost use Rattle.xs_params.specs.declared.header.Header.{Header};
+ghost use Rattle.xs_faults.specs.declared.HeadFault.TheVariants as HeadFault;
+ghost use Rattle.xs_grammar.specs.Header.{IsHeaderFront, pih_code};
+ghost use Rattle.xs_grammar.specs.Slice.{slh};
+ghost use Rattle.xs_decoding.specs.Built.{IsBuiltHeader};
+ghost use Rattle.xs_markers.specs.Reading.{body_at, code_fault, component_rows, end_fault, head_fault, picture_of, segment_fault, weights_of};
+
+use crate::codes::{CAP, CDT, PIH, SLH, SOC, WGT};
+use crate::numbers::{field, half_word_at};
+use crate::picture::PictureFields;
+use crate::rows::{Row, accept, only};
+use std::alloc::Global;
+use xs_faults::{HeadFault, HeadField};
+use xs_io::Memory;
+use xs_params::{Header, Weight, Weights};
+
+// Where the segments of a header stand, and where it ends.
+const CAP_PLACE: usize = 2;
+
+const PIH_PLACE: usize = 6;
+
+const CDT_PLACE: usize = 34;
+
+const WGT_PLACE: usize = 40;
+
+const END_PLACE: usize = 48;
+
+fn truncated(bytes: &[u8]) -> HeadFault
+    requires few { length bytes.now < 2 ^ 32 }
+    ensures { result ≡ HeadFault.Truncated (length bytes.now) }
+{
+    HeadFault::Truncated {
+        place: bytes.len() as u32,
+    }
+}
+
+// Wants a code at a place.
+#[tactic(auto, unfolding(crate::specs::Reading::code_fault))]
+fn want_code(bytes: &[u8], place: usize, code: u16) -> Result<(), HeadFault>
+    requires few { length bytes.now < 2 ^ 32 }
+    requires place { place < 2 ^ 16 }
+    ensures first { result_err result ≡ code_fault bytes.now place code }
+{
+    if bytes.len() < place + 2 {
+        return Err(truncated(bytes));
+    }
+    let found = half_word_at(bytes, place);
+    if found != code {
+        return Err(HeadFault::Marker {
+            code: found,
+            place: place as u32,
+        });
+    }
+    Ok(())
+}
+
+// The body of the segment at a place, which is to have this code and this length.
+#[tactic(auto, unfolding(crate::specs::Reading::segment_fault))]
+fn segment_at(bytes: &[u8], place: usize, code: u16, size: u16) -> Result<&[u8], HeadFault>
+    requires few { length bytes.now < 2 ^ 32 }
+    requires place { place < 2 ^ 16 }
+    requires counted { 2 ≤ size }
+    ensures first { result_err result ≡ segment_fault bytes.now place code size }
+    ensures body { IfOk result (λ body. body.now ≡ body_at bytes.now place size) }
+    ensures whole { IfOk result (λ body. length body.now + 2 ≡ size) }
+{
+    want_code(bytes, place, code)?;
+    if bytes.len() < place + 4 {
+        return Err(truncated(bytes));
+    }
+    let stated = half_word_at(bytes, place + 2);
+    if stated != size {
+        return Err(HeadFault::Length {
+            code,
+            length: stated,
+        });
+    }
+    let end = place + 2 + size as usize;
+    if bytes.len() < end {
+        return Err(truncated(bytes));
+    }
+    Ok(&bytes[place + 4..end])
+}
+
+// After the header the bytes end, or a slice begins.
+#[tactic(auto, unfolding(crate::specs::Reading::end_fault))]
+fn want_end(bytes: &[u8], place: usize) -> Result<(), HeadFault>
+    requires few { length bytes.now < 2 ^ 32 }
+    requires place { place < 2 ^ 16 }
+    ensures first { result_err result ≡ end_fault bytes.now place }
+{
+    if bytes.len() <= place {
+        return Ok(());
+    }
+    want_code(bytes, place, SLH)
+}
+
+fn component_rows(body: &[u8]) -> [Row; 3]
+    requires size { length body.now ≡ 2 }
+    ensures rows { result ≡ component_rows body.now }
+{
+    [
+        only(HeadField::Bc, 8, u32::from(body[0])),
+        only(HeadField::Sx, 1, u32::from(field(body[1], 4, 4))),
+        only(HeadField::Sy, 1, u32::from(field(body[1], 4, 0))),
+    ]
+}
+
+fn weights_of(body: &[u8]) -> [Weight; 2]
+    requires size { length body.now ≡ 4 }
+    ensures weights { result ≡ weights_of body.now }
+{
+    [
+        Weight {
+            gain: body[0],
+            priority: body[1],
+        },
+        Weight {
+            gain: body[2],
+            priority: body[3],
+        },
+    ]
+}
+
+// The picture header and the weights of a header of which nothing is refused.
+fn parts_of(bytes: &[u8]) -> Result<(PictureFields, [Weight; 2]), HeadFault>
+    requires few { length bytes.now < 2 ^ 32 }
+    ensures first { result_err result ≡ head_fault bytes.now }
+    ensures picture { IfOk result (λ parts. parts.0 ≡ picture_of (body_at bytes.now 6 26)) }
+    ensures weights { IfOk result (λ parts. parts.1 ≡ weights_of (body_at bytes.now 40 6)) }
+{
+    want_code(bytes, 0, SOC)?;
+    segment_at(bytes, CAP_PLACE, CAP, 2)?;
+    let picture = PictureFields::of(segment_at(bytes, PIH_PLACE, PIH, 26)?);
+    accept(&picture.rows())?;
+    let component = segment_at(bytes, CDT_PLACE, CDT, 4)?;
+    accept(&component_rows(component))?;
+    let weights = segment_at(bytes, WGT_PLACE, WGT, 6)?;
+    want_end(bytes, END_PLACE)?;
+    Ok((picture, weights_of(weights)))
+}
+
+/// Reads a header from the front of the bytes, to the marker of the first slice or to their end, and gives the number of
+/// bytes that it has. What is read now are the segments in the order of `write_header`, of a grey picture of 8 bits that
+/// is split once across; profile, level, gains and priorities may have any value.
+pub fn read_header(alloc: Global, bytes: &[u8]) -> Result<(Header, usize), HeadFault>
+    requires few { length bytes.now < 2 ^ 32 }
+    // The bytes are a header that says this, and what follows it is a slice, or nothing.
+    ensures read { IfOk result (λ read. IsBuiltHeader read.0 (take read.1 bytes.now)) }
+    ensures within { IfOk result (λ read. read.1 ≤ length bytes.now) }
+    ensures next { IfOk result (λ read. (read.1 ≡ length bytes.now) ⊎ BeginsWith (drop read.1 bytes.now) slh) }
+    // Only bytes are refused that are no such header.
+    ensures refused { IfErr result (λ fault. fault ≢ HeadFault.Memory → (h : Header) (n : ℕ) → IsHeaderFront h bytes.now n → IsBuiltHeader h (take n bytes.now) → ⊥) }
+    // Which fault it is.
+    ensures first { IfErr result (λ fault. fault ≢ HeadFault.Memory → head_fault bytes.now ≡ Some fault) }
+{
+    let (picture, weights) = parts_of(bytes)?;
+    match Weights::from_slice(alloc, &weights) {
+        Ok(weights) => Ok((picture.header(weights), END_PLACE)),
+        Err(Memory) => Err(HeadFault::Memory),
+    }
+}

@@ -1,0 +1,35 @@
+use Rattle.std.proofs.Common.{◌≡◌, ◌≢◌, ℕ, drop, sym, ap, subst, ◌∙◌, inl, inr}
+use Rattle.std.specs.Prelude.{◌⊎◌}
+use Rattle.xs_params.specs.declared.header.Header.{Header}
+use Rattle.xs_grammar.specs.Geometry.{slice_count}
+use Rattle.xs_picture.specs.StreamRead.{IsHeaderRead, AreSlicesRead}
+use Rattle.xs_picture.proofs.StreamsRead.{stream_read, no_end, no_length}
+use Rattle.xs_picture.proofs.reader.read_stream.Goals.{else-stated-ne0-via-then-stated-ne0+else-stated-end, else-stated-ne0-via-else-stated-ne0}
+use Rattle.xs_picture.proofs.reader.read_stream.Goals as goal
+
+pub read_end-requires-clause-none : goal.read_end-requires-clause-none
+read_end-requires-clause-none c =
+    no_end c.in_ok-header.header c.args.bytes.now (drop c.in_ok-coefs.place c.args.bytes.now) c.in_ok-header.start c.in_ok-coefs.coefs.slices c.in_ok-header.ensures.read c.in_ok-coefs.ensures.read
+
+pub returns-then-stated-end-clause-refused : goal.returns-then-stated-end-clause-refused
+returns-then-stated-end-clause-refused c =
+    let stated : c.header.result.now.lcod ≡ c.in_ok-header.header.lcod = ap (λ (x : Header). x.lcod) (c.header.ensures ∙ c.in_ok-coefs.ensures.header) in
+    no_length c.in_ok-header.header c.args.bytes.now c.in_ok-header.start c.in_ok-coefs.place c.in_ok-end.end c.in_ok-coefs.coefs.slices c.in_ok-header.ensures.read c.in_ok-end.ensures.within c.in_ok-coefs.ensures.read
+    c.in_ok-end.ensures.read (λ e. c.if-stated-ne0.true (stated ∙ e)) (λ e. c.if-stated-end.true (stated ∙ e))
+
+pub returns-clause-read : goal.returns-clause-read
+returns-clause-read c =
+    let coefs = c.in_ok-coefs.coefs in
+    let bytes = c.args.bytes.now in
+    let start = c.in_ok-header.start in
+    let place = c.in_ok-coefs.place in
+    let end = c.in_ok-end.end in
+    let same = sym c.in_ok-coefs.ensures.header in
+    let stated : coefs.header.lcod ≡ c.header.result.now.lcod = ap (λ (x : Header). x.lcod) (sym c.header.ensures) in
+    let length : (coefs.header.lcod ≡ 0) ⊎ (coefs.header.lcod ≡ end) =
+    elim c.else-stated-ne0.branch [
+      | else-stated-ne0-via-then-stated-ne0+else-stated-end w ↦ inr (stated ∙ w.if-stated-end.false)
+      | else-stated-ne0-via-else-stated-ne0 w ↦ inl (stated ∙ w.if-stated-ne0.false)
+    ] in
+    stream_read coefs bytes start place end (subst (λ x. IsHeaderRead x bytes start) same c.in_ok-header.ensures.read) c.in_ok-end.ensures.within
+    (subst (λ x. AreSlicesRead x (slice_count x) coefs.slices (drop start bytes) (drop place bytes)) same c.in_ok-coefs.ensures.read) c.in_ok-end.ensures.read length

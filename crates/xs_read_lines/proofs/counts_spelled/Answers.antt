@@ -1,0 +1,5 @@
+use Rattle.xs_read_lines.proofs.Laws as laws
+use Rattle.xs_read_lines.proofs.counts_spelled.Goals as goal
+
+pub returns : goal.returns
+returns c = laws.counts_spelled

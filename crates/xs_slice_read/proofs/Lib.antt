@@ -1,0 +1,11 @@
+pub mod Counted
+pub mod Numbered
+pub mod Heads
+pub mod Parts
+pub mod PrecinctHeads
+pub mod Started
+pub mod Precincts
+pub mod Plain
+pub mod Rows
+pub mod Slices
+pub mod Puts

@@ -1,0 +1,134 @@
+//! A slice: its header, and its precincts.
+ghost use Rattle.std.specs.Prelude.{◌≡◌, ◌≢◌, ℕ, ◌+◌, ◌<◌, ◌≤◌, ◌^◌, ◌↔◌, ◌∷◌, ◌++◌, [], true, false, length, map, take, IfOk, IfErr, OnOk, slice_index_or};
+ghost use Rattle.xs_params.specs.declared.header.Header.{Header};
+ghost use Rattle.xs_grammar.specs.Geometry.{bands_of, slice_count};
+ghost use Rattle.xs_grammar.specs.Header.{IsAccepted};
+ghost use Rattle.xs_grammar.specs.Slice.{slice_head};
+ghost use Rattle.xs_lists.specs.Spelling.{BeginsWith};
+ghost use Rattle.xs_geometry.specs.SliceLines.{AreLinesOf, HasLine, row_at};
+ghost use Rattle.xs_decoding.specs.Built.{HasBuiltValues};
+ghost use Rattle.xs_slice_read.specs.Precinct.{band_groups};
+ghost use Rattle.xs_slice_read.specs.Slice.{IsSliceRead, IsSliceRefusal, no_buffer, slice_fault_of};
+
+use crate::precinct::read_precinct;
+use std::alloc::Global;
+use xs_faults::{PrecinctFault, SliceFault};
+use xs_geometry::{Geometry, SliceRows};
+use xs_io::Memory;
+use xs_params::Header;
+use xs_read_lines::BandLine;
+
+/// The bytes of a slice header.
+const HEAD: usize = 6;
+
+/// Reads a slice from the front of the bytes. The answer is its rows of coefficients and the number of its bytes. A header of
+/// the form that is read now is wanted.
+pub fn read_front(
+    alloc: Global,
+    header: &Header,
+    slice: u32,
+    bytes: &[u8],
+) -> Result<(SliceRows, usize), SliceFault>
+    requires few { length bytes.now < 2 ^ 32 }
+    requires accepted { IsAccepted header.now }
+    requires built { HasBuiltValues header.now }
+    requires there { slice < slice_count header.now }
+    ensures read { IfOk result (λ read. IsSliceRead header.now slice read.0 bytes.now read.1) }
+    ensures refused { IfErr result (IsSliceRefusal header.now slice bytes.now) }
+{
+    if bytes.len() < HEAD {
+        return Err(SliceFault::Short);
+    }
+    if !has_head(bytes, slice) {
+        return Err(SliceFault::Head);
+    }
+    let geometry = Geometry::of(header);
+    let mut rows = match SliceRows::blank(alloc, &geometry, slice) {
+        Ok(rows) => rows,
+        Err(Memory) => return Err(SliceFault::Memory),
+    };
+    let mut bands = match band_lines(alloc, &geometry) {
+        Ok(bands) => bands,
+        Err(Memory) => return Err(SliceFault::Memory),
+    };
+    let (first, end) = geometry.slice_precincts(slice);
+    let mut place = HEAD;
+    'precincts: for precinct in first..end {
+        let size = match read_precinct(header, &bytes[place..], bands.as_mut_slice()) {
+            Ok(size) => size,
+            Err(fault) => return Err(slice_fault(precinct, fault)),
+        };
+        put_lines(&mut rows, precinct, bands.as_slice());
+        place += size;
+    }
+    Ok((rows, place))
+}
+
+// The fault of a slice whose precinct is refused. Want of memory is never inside another fault.
+fn slice_fault(precinct: u32, fault: PrecinctFault) -> SliceFault
+    ensures { result ≡ slice_fault_of precinct fault }
+{
+    match fault {
+        PrecinctFault::Memory => SliceFault::Memory,
+        PrecinctFault::Truncated
+        | PrecinctFault::Overrun { .. }
+        | PrecinctFault::Count { .. }
+        | PrecinctFault::Unbuilt { .. } => SliceFault::Precinct { precinct, fault },
+    }
+}
+
+// Whether the bytes begin with the header of a slice.
+fn has_head(bytes: &[u8], slice: u32) -> bool
+    requires whole { HEAD ≤ length bytes.now }
+    requires index { slice < 2 ^ 16 }
+    ensures head { result ≡ true → take 6 bytes.now ≡ slice_head slice }
+    ensures other { result ≡ false → take 6 bytes.now ≢ slice_head slice }
+{
+    let [high, low] = (slice as u16).to_be_bytes();
+    bytes[..HEAD] == [0xff, 0x20, 0, 4, high, low]
+}
+
+// A buffer for the lines of each band.
+fn band_lines(alloc: Global, geometry: &Geometry) -> Result<Vec<BandLine>, Memory>
+    ensures groups { IfOk result (λ bands. map (λ band. band.groups) bands.items ≡ band_groups geometry.now) }
+{
+    let mut bands = Vec::new(alloc);
+    'bands: for band in 0..geometry.bands() {
+        let line = match BandLine::blank(alloc, (geometry.band_width(band) + 3) / 4) {
+            Ok(line) => line,
+            Err(Memory) => return Err(Memory),
+        };
+        match add(&mut bands, line) {
+            Ok(()) => {}
+            Err(Memory) => return Err(Memory),
+        }
+    }
+    Ok(bands)
+}
+
+// One more band.
+fn add(bands: &mut Vec<BandLine>, band: BandLine) -> Result<(), Memory>
+    ensures added { OnOk result (bands.new.items ≡ bands.old.items ++ band ∷ []) }
+{
+    match bands.push(band) {
+        Ok(()) => Ok(()),
+        Err(_) => Err(Memory),
+    }
+}
+
+// Puts the values of the bands' lines into the rows of a line.
+fn put_lines(rows: &mut SliceRows, line: u32, bands: &[BandLine])
+    requires there { (band : ℕ) → band < length bands.now → HasLine rows.old band line }
+    requires few { length bands.now ≤ 64 }
+    requires wide { (band : ℕ) → band < length bands.now → length (row_at rows.old band line) ≤ length (slice_index_or bands.now band no_buffer).values }
+    ensures lines { (h : Header) (slice : ℕ) → AreLinesOf h slice rows.old → AreLinesOf h slice rows.new }
+    ensures here { (band : ℕ) → band < length bands.now → row_at rows.new band line ≡ take (length (row_at rows.old band line)) (slice_index_or bands.now band no_buffer).values }
+    ensures same_lines { (band other : ℕ) → HasLine rows.new band other ↔ HasLine rows.old band other }
+    ensures elsewhere { (band other : ℕ) → HasLine rows.old band other → other ≢ line → row_at rows.new band other ≡ row_at rows.old band other }
+{
+    'bands: for k in 0..bands.len() {
+        let band = k as u32;
+        let width = rows.row(band, line).len();
+        rows.put_row(band, line, &bands[k].values()[..width]);
+    }
+}

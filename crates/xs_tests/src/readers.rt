@@ -1,0 +1,208 @@
+// Codestreams read back: what is spelled otherwise and means the same, what is cut, and what is damaged.
+use crate::commands::{Outcome, run_on, words_of};
+use std::alloc::Global;
+use std::test::Fail;
+use std::thread::Threads;
+use xs_io::{Memory, Octets};
+
+// A black picture of 32 by 4 samples, by hand: header and slice header; of each precinct its header and the packet's, the
+// counts, and the data of its groups, twice; and the end marker.
+const HEADER: [u8; 54] = [
+    0xff, 0x10, //
+    0xff, 0x50, 0, 2, //
+    0xff, 0x12, 0, 0x1a, 0, 0, 0, 0xe8, 0, 0, 0, 0, 0, 0x20, 0, 4, 0, 0, 0, 4, 1, 4, 8, 0x14, 0x84,
+    0, 0x10, 0, //
+    0xff, 0x13, 0, 4, 8, 0x11, //
+    0xff, 0x14, 0, 6, 0, 0, 0, 1, //
+    0xff, 0x20, 0, 4, 0, 0,
+];
+
+const HEAD: [u8; 11] = [0, 0, 0x26, 0, 0, 0, 0, 0x1a, 0, 0x38, 0];
+
+const COUNTS: [u8; 7] = [0xff, 0xf7, 0xff, 0xbf, 0xfd, 0xff, 0xe0];
+
+const GROUPS: [u8; 13] = [0xff, 0, 0, 0, 0, 0, 0x0f, 0xf0, 0, 0, 0, 0, 0];
+
+const EOC: [u8; 2] = [0xff, 0x11];
+
+// Where the header states its length, in one byte.
+const LENGTH: usize = 13;
+
+/// A precinct of the black picture: its header with that of its packet, what fills up the counts, and what the data.
+struct Spelling<'a> {
+    head: &'a [u8],
+    after_counts: &'a [u8],
+    after_data: &'a [u8],
+}
+
+fn add_precinct(stream: &mut Octets, spelling: &Spelling) -> Result<(), Memory> {
+    stream.extend(spelling.head)?;
+    stream.extend(&COUNTS)?;
+    stream.extend(spelling.after_counts)?;
+    stream.extend(&GROUPS)?;
+    stream.extend(&GROUPS)?;
+    stream.extend(spelling.after_data)
+}
+
+/// The bytes with another byte at a place.
+fn with_byte(alloc: Global, bytes: &[u8], place: usize, byte: u8) -> Result<Octets, Memory> {
+    let mut changed = Octets::new(alloc);
+    for at in 0..bytes.len() {
+        changed.extend(&[if at == place { byte } else { bytes[at] }])?;
+    }
+    Ok(changed)
+}
+
+/// The codestream of the black picture, with one byte of its header changed, and each precinct spelled alike. It states its
+/// length, or 0.
+fn stream_of(
+    alloc: Global,
+    place: usize,
+    byte: u8,
+    spelling: &Spelling,
+    stated: bool,
+) -> Result<Octets, Memory> {
+    let mut stream = with_byte(alloc, &HEADER, place, byte)?;
+    for _ in 0..4 {
+        add_precinct(&mut stream, spelling)?;
+    }
+    stream.extend(&EOC)?;
+    let length = if stated { stream.len() % 256 } else { 0 };
+    with_byte(alloc, stream.as_slice(), LENGTH, length as u8)
+}
+
+fn plain_stream(alloc: Global) -> Result<Octets, Memory> {
+    let plain = Spelling {
+        head: &HEAD,
+        after_counts: &[],
+        after_data: &[],
+    };
+    stream_of(alloc, 0, 0xff, &plain, true)
+}
+
+fn decoded<T: Threads + Sync>(threads: &T, alloc: Global, stream: Octets) -> Result<Outcome, Fail> {
+    let words = words_of(alloc, "decode --form xs", "")?;
+    Ok(run_on(threads, alloc, words.as_slice(), stream))
+}
+
+#[test]
+fn spellings_of_one_content_are_read_alike(rt: HostRuntime) -> Result<(), Fail> {
+    let alloc = rt.alloc();
+    let none: [u8; 0] = [];
+    // a place and a byte of the header; precinct header and packet header; filler of counts and of data; whether the length
+    // is stated
+    let rows: [(usize, u8, &[u8], &[u8], &[u8], bool); 13] = [
+        // as it is written; without its length; other profile, level and Rl
+        (0, 0xff, &HEAD, &none, &none, true),
+        (0, 0xff, &HEAD, &none, &none, false),
+        (14, 0xab, &HEAD, &none, &none, true),
+        (17, 0xcd, &HEAD, &none, &none, true),
+        (33, 0x40, &HEAD, &none, &none, true),
+        // bits in Lsgn; bits after the modes; a refinement that reaches both priorities, at quantisation 0
+        (0, 0xff, &[0, 0, 0x26, 0, 0, 0, 0, 0x1a, 0, 0x3f, 0xff], &none, &none, true),
+        (0, 0xff, &[0, 0, 0x26, 0, 0, 0x0f, 0, 0x1a, 0, 0x38, 0], &none, &none, true),
+        (0, 0xff, &[0, 0, 0x26, 0, 255, 0, 0, 0x1a, 0, 0x38, 0], &none, &none, true),
+        // filler after the packet; a byte more of counts; a byte more of data
+        (0, 0xff, &[0, 0, 0x29, 0, 0, 0, 0, 0x1a, 0, 0x38, 0], &none, &[1, 2, 0xff], true),
+        (0, 0xff, &[0, 0, 0x27, 0, 0, 0, 0, 0x1a, 0, 0x40, 0], &[0xa5], &none, true),
+        (0, 0xff, &[0, 0, 0x27, 0, 0, 0, 0, 0x1b, 0, 0x38, 0], &none, &[0x5a], true),
+        // long packet headers; gains that nothing is taken from
+        (33, 0x80, &[0, 0, 0x28, 0, 0, 0, 0, 0, 0xd0, 0, 3, 0x80, 0], &none, &none, true),
+        (44, 15, &HEAD, &none, &none, true),
+    ];
+    for (place, byte, head, after_counts, after_data, stated) in rows {
+        let spelling = Spelling {
+            head,
+            after_counts,
+            after_data,
+        };
+        let stream = stream_of(alloc, place, byte, &spelling, stated)?;
+        let left = decoded(&rt, alloc, stream)?;
+        assert_eq!(rt; left.status, 0);
+        assert!(rt; left.notes.held().is_empty());
+        assert!(rt; left.output.held() == &[0; 128]);
+    }
+    Ok(())
+}
+
+#[test]
+fn every_cut_is_named(rt: HostRuntime) -> Result<(), Fail> {
+    let alloc = rt.alloc();
+    let whole = plain_stream(alloc)?;
+    for length in 1..whole.len() {
+        let cut = Octets::from_slice(alloc, &whole.as_slice()[..length])?;
+        let left = decoded(&rt, alloc, cut)?;
+        let note = format!(in alloc; "input cut {length}\n")?;
+        assert_eq!(rt; left.status, 3);
+        assert!(rt; left.notes.held() == note.as_bytes());
+        assert!(rt; left.output.held().is_empty());
+    }
+    Ok(())
+}
+
+#[test]
+fn every_flipped_bit_is_answered(rt: HostRuntime) -> Result<(), Fail> {
+    let alloc = rt.alloc();
+    let whole = plain_stream(alloc)?;
+    let bytes = whole.as_slice();
+    for place in 0..bytes.len() {
+        for bit in 0..8 {
+            let damaged = with_byte(alloc, bytes, place, bytes[place] ^ (1 << bit))?;
+            let left = decoded(&rt, alloc, damaged)?;
+            assert!(rt; matches!(left.status, 0 | 3 | 6));
+            assert_eq!(rt; left.status == 0, left.notes.held().is_empty());
+            assert_eq!(rt; left.status == 0, !left.output.held().is_empty());
+        }
+    }
+    Ok(())
+}
+
+/// Samples of a picture: a ramp, extremes, or noise.
+fn sample(content: u32, row: u32, column: u32, noise: u32) -> u8 {
+    match content {
+        0 => ((row % 256 * 7 + column % 256 * 3) % 256) as u8,
+        1 => { if row % 2 == column / 3 % 2 { 0 } else { 255 } }
+        _ => (noise / 65536 % 256) as u8,
+    }
+}
+
+fn samples(alloc: Global, width: u32, height: u32, content: u32) -> Result<Octets, Memory> {
+    let mut picture = Octets::new(alloc);
+    let mut noise: u32 = 1;
+    for row in 0..height {
+        for column in 0..width {
+            noise = noise.wrapping_mul(1103515245).wrapping_add(12345);
+            picture.extend(&[sample(content, row, column, noise)])?;
+        }
+    }
+    Ok(picture)
+}
+
+// One level keeps 12 bits of the 20 inside, so every sample of 8 bits comes back.
+#[test]
+fn pictures_come_back(rt: HostRuntime) -> Result<(), Fail> {
+    let alloc = rt.alloc();
+    let sizes = [
+        ("--width 32 --height 4 --slice 4", 32, 4),
+        ("--width 33 --height 4 --slice 2", 33, 4),
+        ("--width 34 --height 5 --slice 1", 34, 5),
+        ("--width 35 --height 7 --slice 3", 35, 7),
+        ("--width 36 --height 6 --slice 5", 36, 6),
+        ("--width 37 --height 9 --slice 4", 37, 9),
+    ];
+    let first = "encode --form xs --format mono --quant deadzone --nlx 1 --nly 0 --share 8000";
+    for (size, width, height) in sizes {
+        for content in 0..3 {
+            let picture = samples(alloc, width, height, content)?;
+            let words = words_of(alloc, first, size)?;
+            let given = Octets::from_slice(alloc, picture.as_slice())?;
+            let encoded = run_on(&rt, alloc, words.as_slice(), given);
+            assert_eq!(rt; encoded.status, 0);
+            let stream = Octets::from_slice(alloc, encoded.output.held())?;
+            let left = decoded(&rt, alloc, stream)?;
+            assert_eq!(rt; left.status, 0);
+            assert!(rt; left.output.held() == picture.as_slice());
+        }
+    }
+    Ok(())
+}
