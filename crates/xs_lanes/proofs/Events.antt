@@ -1,12 +1,12 @@
 -- What each event of the machine does where it is allowed.
-use Rattle.std.proofs.Common.{◌≡◌, ◌≢◌, ℕ, ◌<◌, Bool, true, false, if◌then◌else◌, not, nat_eq, nat_lt, eq-eqb, ne_eqb, List, [], ◌∷◌, ◌++◌, length, length-set, get_or-set_same, set, Option, Some, None, sym, refl, ap, ◌∙◌, arith}
+use Rattle.std.proofs.Common.{◌≡◌, ◌≢◌, ℕ, ◌+◌, ◌<◌, Bool, true, false, if◌then◌else◌, not, nat_eq, nat_lt, eq-eqb, ne_eqb, List, [], ◌∷◌, ◌++◌, length, length-set, get_or-set_same, set, Option, Some, None, sym, refl, ap, ◌∙◌, arith}
 use Rattle.std.proofs.lemmas.Bool.{lt-ltb}
 use Rattle.std.proofs.lemmas.Nat.Bits.{bit_at-lt}
 use Rattle.xs_lane_core.specs.Places.{places, has, every_place, with_places}
 use Rattle.xs_lane_core.specs.declared.values.Stand.{Stand}
-use Rattle.xs_lane_core.specs.declared.values.Stand.TheVariants.{Idle, Saw, Holding, Laid}
-use Rattle.xs_lane_core.specs.Machine.{Placing, Lane, Actor, Machine, lane_in, lane_at, actor_at, nobody, acted, changed, with_taken, with_home, with_value, stands, repeats, stores, sees, mask}
-use Rattle.xs_lane_core.specs.Steps.{Answer, Taken, Back, Lies, Seen, Refused, allowed, is_free, takes, puts_here, puts, home_answer, homes_here, homes, looks}
+use Rattle.xs_lane_core.specs.declared.values.Stand.TheVariants.{Idle, Saw, Holding, Laid, Pulling}
+use Rattle.xs_lane_core.specs.Machine.{Placing, Lane, Actor, Machine, lane_in, lane_at, actor_at, value_at, nobody, acted, changed, with_taken, with_home, with_claim, with_value, stands, repeats, stores, sees, finds_gone, gets, mask}
+use Rattle.xs_lane_core.specs.Steps.{Answer, Taken, Back, Lies, Seen, Claimed, Gone, Pulled, Refused, allowed, is_free, takes, puts_here, puts, home_answer, homes_here, homes, looks, claims_here, claims, pulled, pulls_here, pulls}
 use Rattle.xs_lane_core.proofs.Turns.{lane_here}
 use Rattle.xs_lanes.proofs.Lists.{set_twice}
 
@@ -73,3 +73,17 @@ module _ {T : Type 0} (k : Placing T) where
       put_homes_is n a x (omega arith) lt' low (ap (λ (z : Actor T). z.stand) is)
       ∙ ((λ i. (changed n l (brought y (k.place x) x (mask k x)) a (stores x l after (is i)), home_answer y.home after))
       ∙ (λ i. (record { lanes = set m.lanes l (brought y (k.place x) x (mask k x)); actors = set_twice m.actors a q (stores x l after v) i }, home_answer y.home after)))
+
+  pub claims_open_is : (m : Machine T) (a l : ℕ) → a < length m.actors → l < length m.lanes → (actor_at m a).stand ≡ Saw l → (lane_at m l).claimed ≡ false
+      → claims m a ≡ (changed m l (with_claim (lane_at m l)) a (stands (Pulling l 0) (actor_at m a)), Claimed)
+  claims_open_is m a l lt lt' stand e = allowed_is m (nat_lt a (length m.actors)) _ (lt-ltb _ _ lt) ∙ (ap (claims_here m a) stand ∙ (allowed_is m (nat_lt l (length m.lanes)) _ (lt-ltb _ _ lt')
+      ∙ ap (λ (t : Bool). if t then (acted m a (finds_gone l (actor_at m a)), Gone) else (changed m l (with_claim (lane_at m l)) a (stands (Pulling l 0) (actor_at m a)), Claimed)) e))
+
+  pub claims_gone_is : (m : Machine T) (a l : ℕ) → a < length m.actors → l < length m.lanes → (actor_at m a).stand ≡ Saw l → (lane_at m l).claimed ≡ true → claims m a ≡ (acted m a (finds_gone l (actor_at m a)), Gone)
+  claims_gone_is m a l lt lt' stand e = allowed_is m (nat_lt a (length m.actors)) _ (lt-ltb _ _ lt) ∙ (ap (claims_here m a) stand ∙ (allowed_is m (nat_lt l (length m.lanes)) _ (lt-ltb _ _ lt')
+      ∙ ap (λ (t : Bool). if t then (acted m a (finds_gone l (actor_at m a)), Gone) else (changed m l (with_claim (lane_at m l)) a (stands (Pulling l 0) (actor_at m a)), Claimed)) e))
+
+  pub pulls_is : (m : Machine T) (a l j : ℕ) (x : T) → a < length m.actors → l < length m.lanes → j < places → (actor_at m a).stand ≡ Pulling l j → value_at m l j ≡ Some x
+      → pulls k m a ≡ (changed m l (with_value (lane_at m l) j None) a (gets x (if k.closes x then Idle else Pulling l (j + 1)) (actor_at m a)), Pulled x)
+  pulls_is m a l j x lt lt' low stand there = allowed_is m (nat_lt a (length m.actors)) _ (lt-ltb _ _ lt) ∙ (ap (pulls_here k m a) stand ∙ (allowed_is m (nat_lt l (length m.lanes)) _ (lt-ltb _ _ lt')
+      ∙ (allowed_is m (nat_lt j places) _ (lt-ltb _ _ low) ∙ ap (λ (o : Option T). pulled k m a l j o) there)))

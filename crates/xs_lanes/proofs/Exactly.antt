@@ -15,7 +15,7 @@ use Rattle.xs_lanes.proofs.Knows.{alone_taken, finds_home}
 use Rattle.xs_lanes.proofs.Events.{looks_is, takes_free_is, takes_held_is, put_homes_is}
 
 module _ {T : Type 0} (k : Placing T) where
-  home_same : (n : ℕ) (v : Actor T) (l found : ℕ) → FindsHome k v l found → IsAlone v → (m : Machine T) (a : ℕ) → HasActor k n v m a → (lane_at m l).home ≡ found
+  pub home_same : (n : ℕ) (v : Actor T) (l found : ℕ) → FindsHome k v l found → IsAlone v → (m : Machine T) (a : ℕ) → HasActor k n v m a → (lane_at m l).home ≡ found
   home_same n v l found f alone m a h = let there = finds_home k m a l h.sound h.inside in let mine = subst (λ (z : Actor T). FindsHome k z l found) (sym h.is) f in let alone' = subst IsAlone (sym h.is) alone in
       same_from_bits (lane_at m l).home found (λ p. there.alone alone' p ∙ sym (mine.alone alone' p))
 

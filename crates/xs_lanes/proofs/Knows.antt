@@ -5,6 +5,8 @@ use Rattle.std.proofs.lemmas.List.Sums.{sum_by-cons}
 use Rattle.std.proofs.lemmas.List.Elements.{All-weaker, All-contains}
 use Rattle.std.proofs.lemmas.Nat.Bits.{bit_at-lt}
 use Rattle.std.specs.List.{Contains}
+use mathlib.Core.Logic.{dite}
+use native.Mathlib.Decide.{ℕ_discrete}
 use Rattle.xs_lane_core.specs.Places.{has, IsWithin}
 use Rattle.xs_lane_core.specs.declared.values.Stand.{Stand}
 use Rattle.xs_lane_core.specs.declared.values.Stand.TheVariants.{Idle, Saw, Holding, Laid, Pulling, Spent}
@@ -53,6 +55,14 @@ module _ {T : Type 0} where
 
   pub alone_got : (f : T → ℕ) (m : Machine T) (a : ℕ) → WholeShare m → a < length m.actors → IsAlone (actor_at m a) → over_got f m ≡ sum_by f (actor_at m a).got
   alone_got f m a w lt alone = sum_only (λ (z : Actor T). sum_by f z.got) m.actors a nobody lt (λ b ne. ap (sum_by f) (others_spent m a b w lt alone ne).2)
+
+  -- what is stored, the pass that is alone stored
+  stored_by : (m : Machine T) (a b : ℕ) (x : T) → WholeShare m → a < length m.actors → IsAlone (actor_at m a) → Contains (actor_at m b).stored x → Contains (actor_at m a).stored x
+  stored_by m a b x w lt alone c = dite (ℕ_discrete b a) (λ e. subst (λ i. Contains (actor_at m i).stored x) e c)
+      (λ ne. let none = subst (λ xs. Contains xs x) (others_spent m a b w lt alone ne).1 c in let low = none.1 in absurd (omega arith))
+
+  pub alone_is_stored : (m : Machine T) (a : ℕ) → WholeShare m → a < length m.actors → IsAlone (actor_at m a) → (x : T) → (b : ℕ) × Contains (actor_at m b).stored x → Contains (actor_at m a).stored x
+  alone_is_stored m a w lt alone x h = stored_by m a h.0 x w lt alone h.1
 
 module _ {T : Type 0} (k : Placing T) where
   -- where the pass is alone and has no place out, the taken places are those that it stored

@@ -8,5 +8,10 @@ pub mod Events
 pub mod Homes
 pub mod Shares
 pub mod Tells
-pub mod Named
 pub mod Exactly
+pub mod Claims
+pub mod Draws
+pub mod Runs
+pub mod Ends
+pub mod Named
+pub mod ClaimsExactly

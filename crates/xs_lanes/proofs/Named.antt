@@ -1,20 +1,23 @@
 -- Each kind of step is the event of its name.
-use Rattle.std.proofs.Common.{◌≡◌, ◌≢◌, ℕ, ◌<◌, List, [], ◌∷◌, ◌++◌, length, length-set, get_or, get_or-set_other, set, sum_by, Option, sym, refl, ap, ◌∙◌, subst, arith}
+use Rattle.std.proofs.Common.{◌≡◌, ◌≢◌, ℕ, ◌+◌, ◌<◌, Bool, true, false, List, [], ◌∷◌, ◌++◌, length, length-set, get_or, get_or-set_other, set, sum_by, Option, sym, refl, ap, ◌∙◌, subst, arith}
 use Rattle.std.proofs.lemmas.List.Sums.{sum_by-set, sum_by_push, sum_by-append}
 use mathlib.Core.Option as maybe
 use Rattle.xs_lane_core.specs.Places.{has}
+use Rattle.xs_lane_core.specs.declared.values.Stand.TheVariants.{Saw, Pulling}
 use Rattle.xs_lane_core.specs.Machine.{Placing, Actor, Machine, lane_at, actor_at, nobody, halves, copied, joined}
-use Rattle.xs_lane_core.specs.Steps.{Answer, looks, splits, joins}
-use Rattle.xs_lane_core.specs.Sound.{drawn, in_lane, IsSound}
+use Rattle.xs_lane_core.specs.Steps.{Answer, looks, claims, pulls, splits, joins}
+use Rattle.xs_lane_core.specs.Sound.{drawn, in_lane, PullsNext, IsSound}
 use Rattle.xs_lane_core.proofs.Cases.{looks_case, splits_case, joins_case}
-use Rattle.xs_lane_core.proofs.Keeps.{take_keeps, put_keeps, home_keeps, look_keeps, split_keeps, join_keeps}
+use Rattle.xs_lane_core.proofs.Keeps.{take_keeps, put_keeps, home_keeps, look_keeps, claim_keeps, pull_keeps, split_keeps, join_keeps}
 use Rattle.xs_lane_core.proofs.Turns.{got_same}
 use Rattle.xs_lanes.specs.Filing.{word_at, Shows}
-use Rattle.xs_lanes.specs.Events.{ShowsSound, TakesAsEvent, ComesHomeAsEvent, LooksAsEvent, SplitsAsEvent, JoinsAsEvent}
+use Rattle.xs_lanes.specs.Events.{ShowsSound, TakesAsEvent, ComesHomeAsEvent, LooksAsEvent, ClaimsAsEvent, PullsAsEvent, SplitsAsEvent, JoinsAsEvent}
 use Rattle.xs_lanes.proofs.Shown.{shows_acted}
 use Rattle.xs_lanes.proofs.Held.{holds_another}
-use Rattle.xs_lanes.proofs.Events.{takes_free_is, takes_held_is, held_homes_is}
+use Rattle.xs_lanes.proofs.Events.{takes_free_is, takes_held_is, held_homes_is, claims_open_is, claims_gone_is, pulls_is}
 use Rattle.xs_lanes.proofs.Takes.{take_shows, held_shows}
+use Rattle.xs_lanes.proofs.Claims.{claim_shows, gone_shows}
+use Rattle.xs_lanes.proofs.Draws.{next_value, pull_shows}
 use Rattle.xs_lanes.proofs.Homes.{home_shows, held_taken}
 use Rattle.xs_lanes.proofs.Shares.{drawn_split, drawn_joined}
 
@@ -60,3 +63,17 @@ module _ {T : Type 0} (k : Placing T) where
     shows = joins_case (λ r. Shows k words homes r.0) m a b s.shows (λ lt lt' ne free free'. shows_acted k words homes m _ s.shows (drawn_joined k m a b lt lt' ne));
     sound = join_keeps k m a b s.sound;
   }
+
+  by_flag : (words : List ℕ) (homes : List (maybe.Option (Option T))) (m : Machine T) (a l : ℕ) (b : Bool) → Shows k words homes m → a < length m.actors → l < length m.lanes → (actor_at m a).stand ≡ Saw l → (lane_at m l).claimed ≡ b → Shows k (set words (word_at l 2) 1) homes (claims m a).0
+  by_flag words homes m a l true s lt lt' stand e = shown_by _ _ _ _ (claims_gone_is k m a l lt lt' stand e) (gone_shows k words homes m a l s lt lt' e)
+  by_flag words homes m a l false s lt lt' stand e = shown_by _ _ _ _ (claims_open_is k m a l lt lt' stand e) (claim_shows k words homes m a l s lt lt')
+
+  pub claims_as_event : ClaimsAsEvent k
+  claims_as_event words homes m a l s lt lt' stand = record { shows = by_flag words homes m a l (lane_at m l).claimed s.shows lt lt' stand refl; sound = claim_keeps k m a s.sound }
+
+  pub pulls_as_event : PullsAsEvent k
+  pulls_as_event words homes m a l j s lt lt' stand = let v = next_value k m a l j s.sound stand in let x : T = v.0 in let own = s.sound.one_holder.own l j x (s.sound.map_follows.lying l j x v.1) in
+      let next : j ≡ drawn k m l = subst (PullsNext k m) stand (s.sound.got_in_order.next a) in (
+        s.shows.word l 3 lt' (omega arith) ∙ sym next,
+        record { shows = shown_by _ _ _ _ (pulls_is k m a l j x lt lt' own.2 stand v.1) (pull_shows k words homes m a l j x _ s.shows s.sound lt lt' next own.0 v.1); sound = pull_keeps k m a s.sound },
+      )

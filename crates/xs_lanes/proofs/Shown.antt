@@ -9,7 +9,7 @@ use Rattle.atomic_table.proofs.Lists.{set_here, set_else}
 use Rattle.xs_lane_core.specs.Places.{places, has}
 use Rattle.xs_lane_core.specs.Machine.{Placing, Lane, Actor, Machine, lane_in, lane_at, value_at, no_lane, acted, changed}
 use Rattle.xs_lane_core.specs.Sound.{drawn}
-use Rattle.xs_lane_core.proofs.Turns.{lane_here}
+use Rattle.xs_lane_core.proofs.Turns.{lane_here, part_same}
 use Rattle.xs_lanes.specs.Filing.{lane_word, slot_at, ShowsSlots, Shows}
 
 module _ {T : Type 0} where
@@ -51,6 +51,16 @@ module _ {T : Type 0} where
             (λ ng. set_else homes (slot_at l p) (slot_at j r) o (λ w. ng (omega arith)) ∙ s.free j r (omega arith) low' (ap (λ i. has (lane_at m i).taken r) h ∙ free r ng t)))
             (λ nh. let t : has (lane_at m j).taken r ≡ 0 = ap (λ (z : Lane T). has z.taken r) (sym (lane_else m.lanes l j y nh)) ∙ e in
             set_else homes (slot_at l p) (slot_at j r) o (λ w. nh (omega arith)) ∙ s.free j r (omega arith) low' t);
+      }
+
+  -- no slot changes, and of the lane neither what is taken nor what lies there
+  pub slots_kept : (homes : List (maybe.Option (Option T))) (m : Machine T) (l a : ℕ) (y : Lane T) (q : Actor T) → ShowsSlots homes m → l < length m.lanes → y.values ≡ (lane_at m l).values → y.taken ≡ (lane_at m l).taken
+      → ShowsSlots homes (changed m l y a q)
+  slots_kept homes m l a y q s lt same_values same_taken = let long : length (set m.lanes l y) ≡ length m.lanes = length-set m.lanes l y in
+      let values = part_same (λ (z : Lane T). z.values) m.lanes l y lt same_values in let taken = part_same (λ (z : Lane T). z.taken) m.lanes l y lt same_taken in record {
+        count = s.count ∙ ap (λ z. 64 * z) (sym long);
+        lying = λ j r x lt' e. s.lying j r x (omega arith) (ap (λ (z : List (Option T)). get_or z r None) (sym (values j)) ∙ e);
+        free = λ j r lt' low e. s.free j r (omega arith) low (ap (λ z. has z r) (sym (taken j)) ∙ e);
       }
 
   -- a slot in whose place no value lies comes home empty

@@ -35,7 +35,7 @@ place_same p q e = dite (ℕ_discrete p q) (λ y. y) (λ ne. let a = only_here p
 
 module _ {T : Type 0} (k : Placing T) where
   -- a place that nobody took has no value
-  empty_place : (m : Machine T) (l p : ℕ) (x : T) → IsSound k m → has (lane_at m l).taken p ≡ 0 → value_at m l p ≢ Some x
+  pub empty_place : (m : Machine T) (l p : ℕ) (x : T) → IsSound k m → has (lane_at m l).taken p ≡ 0 → value_at m l p ≢ Some x
   empty_place m l p x s empty e = let f = s.map_follows.filled l p in let o = s.one_holder.once l p in let c : lies (value_at m l p) ≡ 1 = ap lies e in absurd (omega arith)
 
   -- the slot of a free place goes out

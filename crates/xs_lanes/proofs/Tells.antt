@@ -7,12 +7,19 @@ use mathlib.Core.Logic.{dite}
 use native.Mathlib.Decide.{ℕ_discrete}
 use Rattle.atomic_table.specs.Table.{Me, step, rest}
 use Rattle.xs_lane_core.specs.Places.{has, only, with_places}
-use Rattle.xs_lane_core.specs.Machine.{Placing, Actor, repeats, stores, sees}
+use Rattle.xs_lane_core.specs.declared.values.Stand.TheVariants.{Pulling}
+use Rattle.xs_lane_core.specs.Machine.{Placing, Actor, stands, repeats, stores, finds_gone}
 use Rattle.xs_lane_core.proofs.Kept.{mask_test}
 use Rattle.xs_lanes.specs.Filing.{word_at, slot_at}
 use Rattle.xs_lanes.specs.Knowing.{IsAlone, IsChoice, FindsHome, stored_at}
-use Rattle.xs_lanes.specs.Plays.{stand_seen, first_item, took, came_home, looked}
+use Rattle.xs_lanes.specs.Claiming.{got_in, HasDrawn}
+use Rattle.xs_lanes.specs.Plays.{first_item, took, came_home, claimed, pulled}
 use Rattle.xs_lanes.specs.Answers.{HasTaken}
+
+-- the value of the slot that was taken last
+abbrev head_item : {T : Type 0} → List (ℕ × Option T) → Option T
+head_item [] = None
+head_item (e ∷ es) = e.1
 
 none_or : (n : ℕ) → (0 < n → ⊥) → n ≡ 0
 none_or n h = dite (ℕ_discrete n 0) (λ e. e) (λ ne. absurd (h (omega arith)))
@@ -46,4 +53,21 @@ module _ {T : Type 0} (k : Placing T) where
     subst (λ (m : Me (Option T) (Actor T)). FindsHome k m.0 l r) is t.0,
     t.1 ∙ ap (λ (m : Me (Option T) (Actor T)). stores x l (with_places r b) m.0) is,
     t.2 ∙ ap (λ (m : Me (Option T) (Actor T)). rest m.1) is,
+  )
+
+  pub won_tells : (n w r l : ℕ) (me m' : Me (Option T) (Actor T)) → w ≡ word_at l 2 → claimed k (step n w 1 0 none) me r m'
+      → MatchBool (nat_eq r 0) ((m'.0 ≡ stands (Pulling l 0) me.0) × (got_in k l me.0 ≡ 0) × ¬ Contains me.0.gone l) ((m'.0 ≡ finds_gone l me.0) × (IsAlone me.0 → 0 < got_in k l me.0))
+  won_tells n w r l me m' e h = let t = h l e in
+      let X : Type 0 = (m'.0 ≡ stands (Pulling l 0) me.0) × (got_in k l me.0 ≡ 0) × ¬ Contains me.0.gone l in let Y : Type 0 = (m'.0 ≡ finds_gone l me.0) × (IsAlone me.0 → 0 < got_in k l me.0) in
+      dite (ℕ_discrete r 0)
+      (λ z. subst (λ (c : Bool). MatchBool c X Y) (sym (eq-eqb r 0 z)) (t.1 z, none_or (got_in k l me.0) (λ lt. let o = t.0.got lt in omega arith), λ c. let o = t.0.gone c in omega arith))
+      (λ ne. subst (λ (c : Bool). MatchBool c X Y) (sym (ne_eqb r 0 ne)) (t.2 ne, λ alone. let o = t.0.alone alone in omega arith))
+
+  pub drawn_tells : (n w r l slot : ℕ) (item : Option T) (me m1 m2 : Me (Option T) (Actor T)) → w ≡ word_at l 3 → me.1 ≡ [] → pulled k (step n w 1 0 none) me r m1 → slot ≡ slot_at l r → m1.1 ≡ (slot, item) ∷ rest m1.1 → m2 ≡ (m1.0, (slot, None) ∷ rest m1.1)
+      → (j : ℕ) → me.0.stand ≡ Pulling l j → (x : T) × (item ≡ Some x) × HasDrawn k me.0 l j x m2.0 × (m2.1 ≡ (slot_at l j, None) ∷ [])
+  drawn_tells n w r l slot item me m1 m2 e idle h at first after j stand = let t = h l j e stand in let u = t.2 in (
+    u.0,
+    ap head_item (sym first ∙ u.4),
+    record { lane = u.1; place = u.2; low = t.1; view = ap (λ (m : Me (Option T) (Actor T)). m.0) after ∙ u.3 },
+    ap (λ (m : Me (Option T) (Actor T)). m.1) after ∙ (λ i. ((at ∙ ap (slot_at l) t.0) i, None) ∷ (ap rest u.4 ∙ idle) i),
   )

@@ -1,11 +1,11 @@
 -- Each kind of step changes what the table shows as the event of its name changes the machine.
-use Rattle.std.specs.Prelude.{◌≡◌, ℕ, ◌<◌, true, List, [], ◌∷◌, ◌++◌, length, slice_index, slice_set, Option, Some, None}
+use Rattle.std.specs.Prelude.{◌≡◌, ℕ, ◌+◌, ◌<◌, true, List, [], ◌∷◌, ◌++◌, length, slice_index, slice_set, Option, Some, None}
 use mathlib.Core.Option.{some, none}
 use mathlib.Core.Option as maybe
 use Rattle.xs_lane_core.specs.Places.{places, has, only, with_places}
-use Rattle.xs_lane_core.specs.declared.values.Stand.TheVariants.{Holding, Laid}
+use Rattle.xs_lane_core.specs.declared.values.Stand.TheVariants.{Saw, Holding, Pulling}
 use Rattle.xs_lane_core.specs.Machine.{Placing, Actor, Machine, lane_at, actor_at, stands, acted, mask}
-use Rattle.xs_lane_core.specs.Steps.{is_free, takes, puts, homes, looks, splits, joins}
+use Rattle.xs_lane_core.specs.Steps.{is_free, takes, puts, homes, looks, claims, pulls, splits, joins}
 use Rattle.xs_lane_core.specs.Sound.{IsSound}
 use Rattle.xs_lanes.specs.Filing.{word_at, slot_at, Shows}
 
@@ -45,3 +45,13 @@ module _ {T : Type 0} (k : Placing T) where
 
   abbrev pub JoinsAsEvent : Type 0
   JoinsAsEvent = (words : List ℕ) (homes : List (maybe.Option (Option T))) (m : Machine T) (a b : ℕ) → ShowsSound words homes m → ShowsSound words homes (joins m a b).0
+
+  -- The claimed word becomes 1. Where it was 0 the lane is the actor's, else it is gone.
+  abbrev pub ClaimsAsEvent : Type 0
+  ClaimsAsEvent = (words : List ℕ) (homes : List (maybe.Option (Option T))) (m : Machine T) (a l : ℕ) → ShowsSound words homes m → a < length m.actors → l < length m.lanes → (actor_at m a).stand ≡ Saw l
+      → ShowsSound (slice_set words (word_at l 2) 1) homes (claims m a).0
+
+  -- The drawn word counts one more, from the place that is pulled, and the slot of this place is out.
+  abbrev pub PullsAsEvent : Type 0
+  PullsAsEvent = (words : List ℕ) (homes : List (maybe.Option (Option T))) (m : Machine T) (a l j : ℕ) → ShowsSound words homes m → a < length m.actors → l < length m.lanes → (actor_at m a).stand ≡ Pulling l j
+      → (slice_index words (word_at l 3) ≡ j) × ShowsSound (slice_set words (word_at l 3) (j + 1)) (slice_set homes (slot_at l j) none) (pulls k m a).0

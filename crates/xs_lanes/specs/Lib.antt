@@ -1,7 +1,10 @@
 pub mod Filing
 pub mod Knowing
+pub mod Claiming
 pub mod Plays
 pub mod Passes
 pub mod Answers
 pub mod Exact
 pub mod Events
+pub mod Claimed
+pub mod Settled

@@ -15,34 +15,10 @@ ghost use Rattle.xs_lanes.specs.Exact.{PutExactly, LookExactly};
 
 use crate::lanes::Put;
 use crate::table::{Home, Lanes, Look, Pass, Take};
+use crate::words::{HOME, TAKEN, bit_of, slot_at, word_at};
 use xs_io::Placed;
 
-const TAKEN: usize = 0;
-
-const HOME: usize = 1;
-
 const LAST_SLOT: u32 = 63;
-
-fn word_at(lane: u32, word: usize) -> usize
-    requires { word < 4 }
-    ensures { result ≡ word_at lane word }
-{
-    4 * lane as usize + word
-}
-
-fn slot_at(lane: u32, slot: u32) -> usize
-    requires { slot < 64 }
-    ensures { result ≡ slot_at lane slot }
-{
-    64 * lane as usize + slot as usize
-}
-
-fn bit_of(slot: u32) -> u64
-    requires { slot < 64 }
-    ensures { result ≡ only slot }
-{
-    1 << slot
-}
 
 // The places that a value brings home: its own, or where it closes all from its own on.
 fn places_of<T: Placed>(value: &T) -> u64
@@ -98,7 +74,7 @@ impl<T: Placed + Send + Drop> Lanes<T> {
         ensures home { view pass.new ≡ stores value (T.lane_of value) (with_places result places) (view pass.old) }
     {
         let lane = value.lane();
-        let slot = slot_at(lane, value.slot());
+        let slot = slot_at(lane, value.slot() as usize);
         let word = word_at(lane, HOME);
         drop(self.table.shared.exchange(pass, slot, Some(value)));
         self.table.shared.fetch_or::<Home>(pass, word, places)

@@ -60,6 +60,33 @@ impl<T: Placed> Play<Option<T>, Known<T>> for Look {
     ghost then = { looked (placing T.lane_of T.slot_of T.closes_of) };
 }
 
+pub struct Win;
+
+impl<T: Placed> Play<Option<T>, Known<T>> for Win {
+    ghost use Rattle.xs_lanes.specs.Filing.{placing};
+    ghost use Rattle.xs_lanes.specs.Plays.{claimed};
+
+    ghost then = { claimed (placing T.lane_of T.slot_of T.closes_of) };
+}
+
+pub struct Pull;
+
+impl<T: Placed> Play<Option<T>, Known<T>> for Pull {
+    ghost use Rattle.xs_lanes.specs.Filing.{placing};
+    ghost use Rattle.xs_lanes.specs.Plays.{pulled};
+
+    ghost then = { pulled (placing T.lane_of T.slot_of T.closes_of) };
+}
+
+pub struct GiveBack;
+
+impl<T: Placed> Play<Option<T>, Known<T>> for GiveBack {
+    ghost use Rattle.xs_lanes.specs.Filing.{placing};
+    ghost use Rattle.xs_lanes.specs.Plays.{gave_back};
+
+    ghost then = { gave_back (placing T.lane_of T.slot_of T.closes_of) };
+}
+
 pub struct Halves;
 
 impl<T> Split<Known<T>> for Halves {

@@ -1,13 +1,14 @@
 ghost use Rattle.std.specs.Prelude.{◌≡◌, ◌<◌, ◌≤◌, ℕ, All, length, slice_index_or};
 ghost use Rattle.xs_lanes.specs.Passes.{IsPassOf, lane_count};
 
-use crate::{Lanes, Pass, Placed, Put};
+use crate::{Claim, Lanes, Pass, Placed, Put};
+use arrayvec::ArrayVec;
 use std::alloc::Global;
 use std::test::Fail;
 use std::thread;
 use std::thread::Threads;
 
-#[derive(Drop)]
+#[derive(Default, Drop)]
 struct Item {
     lane: u32,
     place: u32,
@@ -152,6 +153,51 @@ fn two_threads_put_the_same_places(rt: HostRuntime) -> Result<(), Fail> {
     }
     assert!(rt; stored == 64);
     assert!(rt; own == 64);
-    assert!(rt; lanes.look(&mut pass, 0) == u64::MAX);
+    let mut values: ArrayVec<Item, 64> = ArrayVec::new();
+    assert!(rt; lanes.claim(&mut pass, 0, &mut values) == Claim::Got);
+    assert!(rt; values.len() == 64);
+    let mut next: u32 = 0;
+    for value in values.as_slice() {
+        if value.place == next && (value.feeder == 1 || value.feeder == 2) {
+            next = next.saturating_add(1);
+        }
+    }
+    assert!(rt; next == 64);
+    Ok(())
+}
+
+#[test]
+fn whole_lane_is_got_once(rt: HostRuntime) -> Result<(), Fail> {
+    let alloc: Global = rt.alloc();
+    let (lanes, mut first) = Lanes::new(alloc, 2)?;
+    let mut second = lanes.split(&mut first);
+    assert!(rt; matches!(lanes.put(&mut first, value_at(0, false, 10)), Put::Stored));
+    assert!(rt; matches!(lanes.put(&mut second, value_at(1, true, 20)), Put::Made));
+    let mut values: ArrayVec<Item, 64> = ArrayVec::new();
+    assert!(rt; lanes.claim(&mut first, 0, &mut values) == Claim::Got);
+    let mut feeders: u32 = 0;
+    for value in values.as_slice() {
+        feeders = feeders.saturating_mul(100).saturating_add(value.feeder);
+    }
+    assert!(rt; feeders == 1020);
+    let mut none: ArrayVec<Item, 64> = ArrayVec::new();
+    assert!(rt; lanes.claim(&mut second, 0, &mut none) == Claim::Gone);
+    let mut empty: ArrayVec<Item, 64> = ArrayVec::new();
+    assert!(rt; lanes.claim(&mut second, 1, &mut empty) == Claim::NotWhole(0));
+    assert!(rt;
+        matches!(
+            lanes.put(&mut second, value_at(0, false, 30)),
+            Put::Repeat(_)
+        )
+    );
+    Ok(())
+}
+
+#[test]
+fn closed_lanes_tell_what_was_held(rt: HostRuntime) -> Result<(), Fail> {
+    let alloc: Global = rt.alloc();
+    let (lanes, pass) = Lanes::<Item>::new(alloc, 2)?;
+    let closed = lanes.close(pass);
+    assert!(rt; !closed.whole(1) && !closed.claimed(1) && !closed.held(1, 63));
     Ok(())
 }
