@@ -91,13 +91,16 @@ within_one : (h : Header) → HasBuiltValues h → WithinOne h
 within_one h built = for_grey WithinOne within_grey h built
 
 pub one_picture : OnePicture
-one_picture h other content contents bytes n m picture p q decoded =
-    (lengths, one.1, subst (λ x. IsDecodingOf x contents picture) one.1 (record {
-      whole = decoded.whole;
-      shape = decoded.shape;
-      samples = λ component row column place.
-          decoded.samples component row column place ∙ decoded_within h (dequantised_rows h content) (dequantised_rows h contents) component row column p.1.spelled.headed.accepted same place;
-    }))
+one_picture h other content contents bytes n m picture p q decoded = (
+  lengths,
+  one.1,
+  subst (λ x. IsDecodingOf x contents picture) one.1 (record {
+    whole = decoded.whole;
+    shape = decoded.shape;
+    samples = λ component row column place.
+        decoded.samples component row column place ∙ decoded_within h (dequantised_rows h content) (dequantised_rows h contents) component row column p.1.spelled.headed.accepted same place;
+  }),
+)
   where
     one : (drop n bytes ≡ drop m bytes) × (h ≡ other) × AllByRecursion (λ slice. AllByRecursion (SamePrecinct h content contents) (precincts_of h slice)) (upto (slice_count h))
     one = one_codestream h other content contents (take n bytes) (take m bytes) (drop n bytes) (drop m bytes) p.1.spelled q.1.spelled (take-append-drop n bytes ∙ sym (take-append-drop m bytes))

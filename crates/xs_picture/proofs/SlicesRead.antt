@@ -1,6 +1,6 @@
 -- Slices that were read one after the other: their contents are put together, since each speaks of its own lines.
-use Rattle.std.proofs.Common.{◌≡◌, ℕ, zero, suc, ◌+◌, ◌-◌, ◌*◌, ◌/◌, ◌<◌, ◌≤◌, ◌^◌, List, [], ◌∷◌, ◌++◌, take, drop, length, get_or, refl, sym, ap, subst, ◌∙◌, arith, append_assoc, length-append, inl, inr}
-use Rattle.std.specs.Prelude.{Bool, true, false, if◌then◌else◌, ℤ, nat_lt, min, pos, ⊤}
+use Rattle.std.proofs.Common.{◌≡◌, ℕ, ◌+◌, ◌-◌, ◌*◌, ◌/◌, ◌<◌, ◌≤◌, ◌^◌, List, [], ◌∷◌, ◌++◌, take, drop, length, get_or, refl, sym, ap, subst, ◌∙◌, arith, append_assoc, length-append, inl, inr}
+use Rattle.std.specs.Prelude.{Bool, if◌then◌else◌, nat_lt, min, pos}
 use Rattle.std.specs.List.{AllByRecursion, range_with_len}
 use Rattle.std.proofs.Math.Nat.{mul-le-mul_right, le-div_iff_mul-le}
 use Rattle.std.proofs.Math.Seq.{get_or-append_seam}
@@ -10,12 +10,11 @@ use Rattle.xs_lists.specs.Spelling.{upto, SpellsEach}
 use Rattle.xs_lists.proofs.Each.{each-more, each-same, range-all, range-more}
 use Rattle.xs_layout.specs.Geometry.{ceil_div}
 use Rattle.xs_params.specs.declared.header.Header.{Header}
-use Rattle.xs_signal.specs.Quantiser.{dequantised}
 use Rattle.xs_signal.specs.Lines.{entries_of}
-use Rattle.xs_grammar.specs.Geometry.{bands_of, band_width_of, band_height_of, precinct_count, precinct_lines, precincts_of}
+use Rattle.xs_grammar.specs.Geometry.{bands_of, band_height_of, precinct_count, precincts_of}
 use Rattle.xs_grammar.specs.Header.{IsAccepted}
-use Rattle.xs_grammar.specs.Precinct.{Content, IsPrecinct, line_truncation}
-use Rattle.xs_geometry.specs.SliceLines.{BandLines, row_at, slice_height, first_line_of, end_line_of, AreLinesOf}
+use Rattle.xs_grammar.specs.Precinct.{Content, IsPrecinct}
+use Rattle.xs_geometry.specs.SliceLines.{BandLines, row_at, slice_height, AreLinesOf}
 use Rattle.xs_decoding.specs.Dequantised.{dequantised_rows}
 use Rattle.xs_decoding.specs.Built.{HasBuiltValues, IsBuiltPrecinct, IsBuiltSlice}
 use Rattle.xs_slice_read.specs.Slice.{IsSliceRead}

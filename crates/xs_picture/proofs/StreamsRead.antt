@@ -1,5 +1,5 @@
 -- Codestreams: what was read is one, and what is refused is none.
-use Rattle.std.proofs.Common.{◌≡◌, ◌≢◌, ℕ, zero, suc, ◌+◌, ◌-◌, ◌*◌, ◌/◌, ◌<◌, ◌≤◌, ◌^◌, List, [], ◌∷◌, ◌++◌, take, drop, length, refl, sym, ap, subst, ◌∙◌, arith, append_assoc, append-nil, length-append, length-take-le, inl, inr}
+use Rattle.std.proofs.Common.{◌≡◌, ◌≢◌, ℕ, zero, suc, ◌+◌, ◌-◌, ◌*◌, ◌<◌, ◌≤◌, ◌^◌, List, [], ◌∷◌, ◌++◌, take, drop, length, refl, sym, ap, subst, ◌∙◌, arith, append_assoc, append-nil, length-append, length-take-le, inl, inr}
 use Rattle.std.specs.Prelude.{◌⊎◌, ⊤}
 use Rattle.std.specs.List.{AllByRecursion, range_with_len}
 use Rattle.std.proofs.Math.Nat.{lt-div-mul-add}
@@ -85,14 +85,18 @@ stream_read c bytes start place end head enough read ended stated = record {
 -- its picture is a decoding of that content
 pub stream_decoded : (c : Coefs) (bytes : List ℕ) (n : ℕ) (picture : Picture) → IsStreamRead c bytes n → IsPictureOf c.header (rows_of_slices c.header c.slices) picture
     → (h : Header) × (content : Content) × IsBuiltFront h content bytes n × IsDecodingOf h content picture
-stream_decoded c bytes n picture read p =
-    (c.header, read.content, read.spelled, record {
-      whole = p.whole;
-      shape = p.shape;
-      samples = λ component row column place.
-          p.samples component row column place
-          ∙ decoded_within c.header (rows_of_slices c.header c.slices) (dequantised_rows c.header read.content) component row column read.whole.accepted (λ band line column inside there within. read.shown band line column inside there) place;
-    })
+stream_decoded c bytes n picture read p = (
+  c.header,
+  read.content,
+  read.spelled,
+  record {
+    whole = p.whole;
+    shape = p.shape;
+    samples = λ component row column place.
+        p.samples component row column place
+        ∙ decoded_within c.header (rows_of_slices c.header c.slices) (dequantised_rows c.header read.content) component row column read.whole.accepted (λ band line column inside there within. read.shown band line column inside there) place;
+  },
+)
 
 -- The header of a codestream at the front is the one that was read
 

@@ -6,4 +6,6 @@ mod bodies;
 #[cfg(test)]
 mod commands;
 #[cfg(test)]
+mod decoding;
+#[cfg(test)]
 mod readers;
