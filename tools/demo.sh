@@ -1,8 +1,8 @@
 #!/bin/sh
-# Makes a grey picture of 512x512 samples, encodes it, and shows what came of it.
+# Makes a grey picture of 512x512 samples, encodes it, decodes what came of it, and shows that the two pictures agree.
 #
-#   sh tools/demo.sh            encodes by the proved program where it stands, else by one that is built without proving
-#                               anything (`rt try`, about a minute), and says which
+#   sh tools/demo.sh            runs the proved program where it stands, else one that is built without proving anything
+#                               (`rt try`, about a minute each way), and says which
 #   sh tools/demo.sh --prove    proves every crate and builds the program first (`rt run`; long the first time)
 #
 # The files stay in a new folder, which is named at the end.
@@ -14,6 +14,7 @@ program=$crate/out/xsx
 folder=$(mktemp -d)
 picture=$folder/picture.raw
 stream=$folder/picture.jxs
+back=$folder/back.raw
 width=512
 height=512
 # No slice of four lines of 512 samples has more than 5170 bytes.
@@ -45,18 +46,21 @@ size_of() {
 
 prove=${1:-}
 make_picture
-set -- encode --form xs --width "$width" --height "$height" --format mono --nlx 1 --nly 0 \
-    --quant deadzone --share "$share"
+encode="encode --form xs --width $width --height $height --format mono --nlx 1 --nly 0 --quant deadzone --share $share"
+decode="decode --form xs"
 
+# The words of a command are split at blanks, on purpose.
 if [ "$prove" = --prove ]; then
-    (cd "$crate" && rt run -- "$@" <"$picture" >/dev/null)
+    (cd "$crate" && rt run -- $encode <"$picture" >/dev/null)
 fi
 if [ -x "$program" ]; then
-    "$program" "$@" <"$picture" >"$stream"
-    echo "encoded by $program, which was built after its proof"
+    "$program" $encode <"$picture" >"$stream"
+    "$program" $decode <"$stream" >"$back"
+    echo "by $program, which was built after its proof"
 else
-    (cd "$crate" && rt try -- "$@" <"$picture" >"$stream")
-    echo "encoded by a program that was built without proving anything"
+    (cd "$crate" && rt try -- $encode <"$picture" >"$stream")
+    (cd "$crate" && rt try -- $decode <"$stream" >"$back")
+    echo "by a program that was built without proving anything"
 fi
 
 if [ "$(marker head)" != ff10 ] || [ "$(marker tail)" != ff11 ]; then
@@ -65,3 +69,8 @@ if [ "$(marker head)" != ff10 ] || [ "$(marker tail)" != ff11 ]; then
 fi
 echo "$picture: $(size_of "$picture") bytes"
 echo "$stream: $(size_of "$stream") bytes"
+if ! cmp "$picture" "$back"; then
+    echo "the decoded picture differs" >&2
+    exit 1
+fi
+echo "$back: decoded, and the same as the picture"

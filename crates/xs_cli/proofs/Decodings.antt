@@ -1,6 +1,6 @@
 -- What reading and decoding an input gives.
-use Rattle.std.proofs.Common.{◌≡◌, ◌≢◌, ℕ, ◌+◌, ◌-◌, ◌<◌, ◌≤◌, ◌++◌, List, [], take, drop, length, Result, Ok, Err, Option, refl, sym, ap, subst, ◌∙◌, arith, inl, inr, ◌⊎◌, append-nil, length-append}
-use Rattle.std.specs.Prelude.{unwrap_or, OnOk, IsOk, ◌↔◌}
+use Rattle.std.proofs.Common.{◌≡◌, ◌≢◌, ℕ, ◌+◌, ◌<◌, ◌≤◌, ◌++◌, List, [], take, drop, length, Result, Ok, Err, Option, refl, sym, ap, subst, ◌∙◌, arith, inl, inr, ◌⊎◌, append-nil, length-append}
+use Rattle.std.specs.Prelude.{unwrap_or, OnOk}
 use Rattle.std.specs.Io.KnownBytes.{Consumes, IsAtEnd}
 use Rattle.std.proofs.Math.Seq.{take-length}
 use Rattle.std.proofs.lemmas.List.{length-drop, take-append-drop}
@@ -21,7 +21,7 @@ use Rattle.xs_words.specs.declared.command.Command.TheVariants.{Decode}
 use Rattle.xs_cli.specs.declared.stop.Damage.TheVariants as damage
 use Rattle.xs_cli.specs.declared.stop.Stop.{Stop}
 use Rattle.xs_cli.specs.declared.stop.Stop.TheVariants as stop
-use Rattle.xs_cli.specs.Decoding.{DecodingTellsExactly, HasNoStream, IsDamage, IsDecoded, IsFollowedStream, IsOneStream, IsWithinLimit, TellsExactly, input_limit}
+use Rattle.xs_cli.specs.Decoding.{DecodingTellsExactly, HasNoStream, IsDamage, IsDecoded, IsFollowedStream, IsOneStream, IsWithinLimit, input_limit}
 use Rattle.xs_cli.specs.Ends.{change_of, IsUsedUp}
 use Rattle.xs_cli.specs.Steps.{IsDone, IsUnlessFailed, IsUnlessMemory}
 use Rattle.xs_cli.proofs.Inputs.{failed_within, over, used_up, was_some, was_whole}

@@ -1,14 +1,11 @@
 -- How a run ends, from what following the words gave and from what was told.
-use Rattle.std.proofs.Common.{◌≡◌, ℕ, zero, suc, ◌<◌, ◌≤◌, List, [], take, Result, Ok, Err, Option, Some, None, refl, sym, ap, subst, ◌∙◌, arith, inl, inr, ◌⊎◌}
-use Rattle.std.specs.Prelude.{IfSome, Bool, true, false, nat_eq, length, if◌then◌else◌}
-use Rattle.std.specs.Io.KnownBytes.{Appends}
+use Rattle.std.proofs.Common.{◌≡◌, ℕ, ◌<◌, ◌≤◌, List, Result, Ok, Err, Option, Some, None, refl, sym, ap, subst, ◌∙◌, arith, inl, inr, ◌⊎◌}
+use Rattle.std.specs.Prelude.{Bool, true, false, nat_eq, length, if◌then◌else◌}
 use Rattle.std.proofs.KnownBytes.{Appends-nil, Keeps-refl}
 use Rattle.xs_params.specs.Picture.{raw_size, picture_of}
 use Rattle.xs_params.specs.Stream.{Stream}
 use Rattle.xs_faults.specs.declared.Budget.{Budget}
-use Rattle.xs_faults.specs.declared.PrecinctFault.{PrecinctFault}
 use Rattle.xs_faults.specs.declared.PrecinctFault.TheVariants as precinct_fault
-use Rattle.xs_faults.specs.declared.SliceFault.{SliceFault}
 use Rattle.xs_faults.specs.declared.SliceFault.TheVariants as slice_fault
 use Rattle.xs_rate.specs.Encoding.{encoding_of}
 use Rattle.xs_notes.specs.Lines.{NamesFault}
@@ -22,7 +19,7 @@ use Rattle.xs_words.specs.Refusal.{refusal_of}
 use Rattle.xs_words.specs.declared.command.Command.{Command}
 use Rattle.xs_words.specs.declared.command.Command.TheVariants.{Decode, Encode}
 use Rattle.xs_words.specs.Command.{command_of}
-use Rattle.xs_cli.specs.Answer.{IsOutcome, IsResult, IsResultUnless, codestream_of, encoded, read_fault_line, said_of, stop_line, stop_of, stop_status}
+use Rattle.xs_cli.specs.Answer.{IsOutcome, IsResult, IsResultUnless, codestream_of, read_fault_line, said_of, stop_line, stop_of, stop_status}
 use Rattle.xs_cli.specs.Decoding.{IsDamage, damage_note}
 use Rattle.xs_cli.specs.Ends.{Change, Ends, HasFailed, IsLeft, IsWriteStatus, Tells, change_of, ends_of}
 use Rattle.xs_cli.specs.Run.{HasAnswer, HasRefusals, HasStatusCause, HasStatusOfAnswer, IsBreak, IsComplete, IsEnding, IsInputFailure, IsRun, IsUnlessBroken, LeavesSource}

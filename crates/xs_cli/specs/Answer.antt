@@ -1,15 +1,12 @@
 -- What a run answers, by its words and its input: 'Command words' and 'Notes'. Neither the number of workers nor a schedule occurs.
-use Rattle.std.specs.Prelude.{◌≡◌, ℕ, ⊤, nat_eq, if◌then◌else◌, Option, Some, None, Result, Ok, Err, List, [], length, codes}
+use Rattle.std.specs.Prelude.{◌≡◌, ℕ, nat_eq, if◌then◌else◌, Option, Some, None, Result, Ok, Err, List, [], length, codes}
 use Rattle.xs_params.specs.declared.settings.Settings.{Settings}
 use Rattle.xs_params.specs.Picture.{raw_size, picture_of}
 use Rattle.xs_params.specs.Stream.{Stream, stream_bytes}
 use Rattle.xs_faults.specs.declared.Budget.{Budget}
 use Rattle.xs_rate.specs.Encoding.{encoding_of}
-use Rattle.xs_notes.specs.declared.note.Note.{Note}
 use Rattle.xs_notes.specs.declared.note.Note.TheVariants as note
-use Rattle.xs_notes.specs.Lines.{NamesFault, line_of}
-use Rattle.xs_cli.specs.declared.stop.Damage.{Damage}
-use Rattle.xs_cli.specs.declared.stop.Damage.TheVariants as damage
+use Rattle.xs_notes.specs.Lines.{line_of}
 use Rattle.xs_cli.specs.declared.stop.Stop.{Stop}
 use Rattle.xs_cli.specs.declared.stop.Stop.TheVariants as stop
 use Rattle.xs_cli.specs.Decoding.{IsDecoded, damage_note, input_limit}

@@ -174,6 +174,65 @@ fn spellings_of_one_content_are_read_alike(rt: HostRuntime) -> Result<(), Fail> 
     Ok(())
 }
 
+// The black picture of 33 by 4 samples in two slices, by hand: the places of width and slice height in the header; a
+// precinct's header with that of its packet; the counts of five groups and of four, with three bits to a byte; the data of
+// five groups, with four bits to a byte. Three places of the fifth group are past the width.
+const WIDTH: usize = 19;
+
+const SLICE_HEIGHT: usize = 25;
+
+const WIDE_HEAD: [u8; 11] = [0, 0, 0x2f, 0, 0, 0, 0, 0x21, 0, 0x48, 0];
+
+const WIDE_COUNTS: [u8; 9] = [0xff, 0xf7, 0xff, 0xbf, 0xfd, 0xff, 0xef, 0xff, 0];
+
+const WIDE_GROUPS: [u8; 33] = [
+    0xff, 0, 0, 0, 0, 0, 0x0f, 0xf0, 0, 0, 0, 0, 0, 0xff, 0, 0, 0, 0, 0, 0x0f, 0xf0, 0, 0, 0, 0, 0,
+    0x88, 0, 0, 0, 0, 0, 0,
+];
+
+/// The codestream of that picture, in each precinct with one byte of the counts and one of the data changed.
+fn wide_stream(alloc: Global, counts: (usize, u8), groups: (usize, u8)) -> Result<Octets, Memory> {
+    let header = with_byte(alloc, &HEADER[..48], WIDTH, 33)?;
+    let header = with_byte(alloc, header.as_slice(), LENGTH, 0)?;
+    let mut stream = with_byte(alloc, header.as_slice(), SLICE_HEIGHT, 2)?;
+    let counts = with_byte(alloc, &WIDE_COUNTS, counts.0, counts.1)?;
+    let groups = with_byte(alloc, &WIDE_GROUPS, groups.0, groups.1)?;
+    for slice in 0..2 {
+        stream.extend(&[0xff, 0x20, 0, 4, 0, slice])?;
+        for _ in 0..2 {
+            stream.extend(&WIDE_HEAD)?;
+            stream.extend(counts.as_slice())?;
+            stream.extend(groups.as_slice())?;
+        }
+    }
+    stream.extend(&EOC)?;
+    Ok(stream)
+}
+
+#[test]
+fn what_is_not_used_may_be_anything(rt: HostRuntime) -> Result<(), Fail> {
+    let alloc = rt.alloc();
+    // a place and a byte of the counts, and of the data
+    let rows = [
+        ((0, 0xff), (0, 0xff)),
+        // the bits up to a byte, of the counts, of the data, of both
+        ((8, 7), (0, 0xff)),
+        ((0, 0xff), (32, 0x0f)),
+        ((8, 5), (32, 0x0a)),
+        // past the width: signs of zeros, and numbers of either sign
+        ((0, 0xff), (26, 0xf8)),
+        ((0, 0xff), (26, 0x8f)),
+        ((0, 0xff), (26, 0xff)),
+    ];
+    for (counts, groups) in rows {
+        let left = decoded(&rt, alloc, wide_stream(alloc, counts, groups)?)?;
+        assert_eq!(rt; left.status, 0);
+        assert!(rt; left.notes.held().is_empty());
+        assert!(rt; left.output.held() == &[0; 132]);
+    }
+    Ok(())
+}
+
 #[test]
 fn every_cut_is_named(rt: HostRuntime) -> Result<(), Fail> {
     let alloc = rt.alloc();

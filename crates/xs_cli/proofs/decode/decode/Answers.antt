@@ -1,7 +1,6 @@
-use Rattle.std.proofs.Common.{◌≡◌, List, ℕ, subst}
 use Rattle.std.specs.Prelude.{IsErrOf}
 use Rattle.xs_io.specs.declared.traits.TakeFault.TheVariants as take_fault
-use Rattle.xs_cli.proofs.Decodings.{decoded_as_far, failed, limited, starved}
+use Rattle.xs_cli.proofs.Decodings.{failed, limited, starved}
 use Rattle.xs_cli.proofs.decode.decode.Goals as goal
 
 pub returns-in-Err-Limit : goal.returns-in-Err-Limit

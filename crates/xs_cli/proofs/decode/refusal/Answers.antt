@@ -1,4 +1,4 @@
-use Rattle.std.proofs.Common.{◌≡◌, subst}
+use Rattle.std.proofs.Common.{subst}
 use Rattle.xs_faults.specs.Names.{NamesStreamFault}
 use Rattle.xs_faults.specs.declared.StreamFault.{StreamFault}
 use Rattle.xs_picture.specs.Reading.{IsStreamRefusal}
