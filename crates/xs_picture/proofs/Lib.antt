@@ -1,5 +1,6 @@
 pub mod Linked
 pub mod Local
+pub mod Rows
 pub mod Lines
 pub mod Pictures
 pub mod Coverage

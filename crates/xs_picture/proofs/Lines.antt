@@ -1,5 +1,5 @@
 -- The lines of a slice, one after the other.
-use Rattle.std.proofs.Common.{◌≡◌, ℕ, ◌+◌, ◌-◌, ◌*◌, ◌/◌, ◌%◌, ◌<◌, ◌≤◌, List, [], ◌∷◌, ◌++◌, length, refl, sym, ap, ◌∙◌, arith, inl, inr, append_assoc, append-nil, length-append}
+use Rattle.std.proofs.Common.{◌≡◌, ℕ, ℤ, ◌+◌, ◌-◌, ◌*◌, ◌/◌, ◌%◌, ◌<◌, ◌≤◌, List, [], ◌∷◌, ◌++◌, length, refl, sym, ap, ◌∙◌, arith, inl, inr, append_assoc, append-nil, length-append}
 use Rattle.std.specs.Prelude.{min}
 use Rattle.std.specs.Int.{to_be_bytes, w16}
 use Rattle.std.specs.List.{flat_map, range_with_len}
@@ -13,7 +13,7 @@ use Rattle.xs_lists.proofs.Bits.{bits_split, bits_mod, length-bits_of}
 use Rattle.xs_lists.proofs.Each.{range-more}
 use Rattle.xs_lists.proofs.Packing.{bytes_by_bits}
 use Rattle.xs_layout.specs.Candidates.{finest}
-use Rattle.xs_layout.specs.Geometry.{groups_of, ceil_div}
+use Rattle.xs_layout.specs.Geometry.{ceil_div}
 use Rattle.xs_params.specs.declared.settings.Settings.{Settings}
 use Rattle.xs_params.specs.declared.header.Header.{Header}
 use Rattle.xs_params.specs.Check.{AreInRange}
@@ -35,7 +35,9 @@ use Rattle.xs_rate.specs.Laws.{AreSmall, AreGreyRows, grey_line}
 use Rattle.xs_rate.proofs.Rows.{grey_rows, small_rows}
 use Rattle.xs_rate.proofs.GreySlices.{grey_slices}
 use Rattle.xs_lines.specs.Rows.{precinct_bits}
-use Rattle.xs_picture.specs.LineBands.{LineBands, AreBandsOf, HaveRoom, bands_of, scaled_line}
+use Rattle.xs_picture.specs.LineBands.{AreBandsOf, HaveRoom, IsFolded, IsGreyLayout, band_row, scaled_line}
+use Rattle.xs_picture.proofs.Rows.{first_there, second_there, first_row, second_row, two_rows}
+use Rattle.xs_geometry.specs.Kept.{geometry_of}
 use Rattle.xs_picture.proofs.Linked.{line_linked}
 use Rattle.xs_picture.proofs.Local.{low_local, high_local}
 
@@ -47,46 +49,45 @@ pub grey_width : (shape other : Shape) → shape ≡ other → width_of shape 0 
 grey_width shape other same = let wide : width_of shape 0 ≡ shape.width = omega arith in wide ∙ ap (λ (x : Shape). x.width) same
 
 -- the bits of a line's precinct are those of its rows
-pub line_bits : (s : Settings) (picture : Picture) (line : ℕ) (bands : LineBands) → IsBuilt s → picture.shape ≡ s.shape → bands.width ≡ s.shape.width
-    → AreBandsOf (row_of picture 0 line) bands → HaveRoom bands
-    → bits_of_bytes (line_precinct (header_of s) (rows_of (header_of s) picture) line) ≡ precinct_bits (bands_of bands)
-line_bits s picture line bands built shape width are room =
-    line_linked h (rows_of h picture) line bands.low bands.high lows highs
-    (room.low ∙ ap (λ n. 4 * groups_of n) (ap low_count width ∙ sym grey.low_width)) (room.high ∙ ap (λ n. 4 * groups_of n) (ap high_count width ∙ sym grey.high_width))
+pub line_bits : (s : Settings) (picture : Picture) (line : ℕ) (rows : List (List ℤ)) → IsBuilt s → picture.shape ≡ s.shape → IsGreyLayout (geometry_of (header_of s))
+    → AreBandsOf (geometry_of (header_of s)) (row_of picture 0 line) rows → HaveRoom (geometry_of (header_of s)) rows
+    → bits_of_bytes (line_precinct (header_of s) (rows_of (header_of s) picture) line) ≡ precinct_bits rows
+line_bits s picture line rows built shape layout are room =
+    line_linked h (rows_of h picture) line (band_row rows 0) (band_row rows 1) lows highs (room.groups 0 (first_there (geometry_of h) layout.grey)) (room.groups 1 (second_there (geometry_of h) layout.grey))
+    ∙ sym (ap precinct_bits (two_rows (geometry_of h) rows layout.grey room))
   where
     h : Header
     h = header_of s
-
-    w : ℕ
-    w = s.shape.width
 
     grey : AreGreyRows (header_of s) picture
     grey = grey_rows (header_of s) picture (record { format = built.format; colour = built.colour; across = built.across; down = built.down })
 
     two : 2 ≤ s.shape.width
-    two = omega (arith, room.least, width)
+    two = omega (arith, layout.least)
 
     same : (j : ℕ) → j < s.shape.width → scaled_line (row_of picture 0 line) j ≡ grey_line (header_of s) picture line j
     same j inside =
         let there : j < width_of picture.shape 0 = omega (arith, inside, grey_width picture.shape s.shape shape) in
         ap (scale_in 8 20) (row_sample picture 0 line j there) ∙ ap (λ depth. scale_in depth 20 (sample_at picture 0 line j)) (sym built.depth)
 
-    lows : (k : ℕ) → entries_of bands.low k ≡ rows_of (header_of s) picture 0 line k
+    first : IsFolded (low_count s.shape.width) (low_of s.shape.width (scaled_line (row_of picture 0 line))) (band_row rows 0)
+    first = first_row (geometry_of (header_of s)) (row_of picture 0 line) rows layout.grey are
+
+    second : IsFolded (high_count s.shape.width) (high_of s.shape.width (scaled_line (row_of picture 0 line))) (band_row rows 1)
+    second = second_row (geometry_of (header_of s)) (row_of picture 0 line) rows layout.grey are
+
+    lows : (k : ℕ) → entries_of (band_row rows 0) k ≡ rows_of (header_of s) picture 0 line k
     lows k = elim (cases_lt k (low_count s.shape.width)) [
       | inl below ↦
-          let inside : k < low_count bands.width = omega (arith, below, ap low_count width) in
-          are.low k inside ∙ ap (λ n. fold 8 (low_of n (scaled_line (row_of picture 0 line)) k)) width
-          ∙ ap (fold 8) (low_local s.shape.width (scaled_line (row_of picture 0 line)) (grey_line (header_of s) picture line) two same k below) ∙ sym (grey.low line k below)
-      | inr past ↦ let beyond : low_count bands.width ≤ k = omega (arith, past, ap low_count width) in are.low_past k beyond ∙ sym (grey.low_past line k past)
+          first.within k below ∙ ap (fold 8) (low_local s.shape.width (scaled_line (row_of picture 0 line)) (grey_line (header_of s) picture line) two same k below) ∙ sym (grey.low line k below)
+      | inr past ↦ first.past k past ∙ sym (grey.low_past line k past)
     ]
 
-    highs : (k : ℕ) → entries_of bands.high k ≡ rows_of (header_of s) picture 1 line k
+    highs : (k : ℕ) → entries_of (band_row rows 1) k ≡ rows_of (header_of s) picture 1 line k
     highs k = elim (cases_lt k (high_count s.shape.width)) [
       | inl below ↦
-          let inside : k < high_count bands.width = omega (arith, below, ap high_count width) in
-          are.high k inside ∙ ap (λ n. fold 8 (high_of n (scaled_line (row_of picture 0 line)) k)) width
-          ∙ ap (fold 8) (high_local s.shape.width (scaled_line (row_of picture 0 line)) (grey_line (header_of s) picture line) two same k below) ∙ sym (grey.high line k below)
-      | inr past ↦ let beyond : high_count bands.width ≤ k = omega (arith, past, ap high_count width) in are.high_past k beyond ∙ sym (grey.high_past line k past)
+          second.within k below ∙ ap (fold 8) (high_local s.shape.width (scaled_line (row_of picture 0 line)) (grey_line (header_of s) picture line) two same k below) ∙ sym (grey.high line k below)
+      | inr past ↦ second.past k past ∙ sym (grey.high_past line k past)
     ]
 
 -- The head of a slice

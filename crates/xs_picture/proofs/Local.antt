@@ -3,8 +3,6 @@ use Rattle.std.proofs.Common.{◌≡◌, ℕ, ◌+◌, ◌-◌, ◌*◌, ◌<◌
 use Rattle.std.specs.Prelude.{◌++◌, take, drop}
 use Rattle.std.proofs.Math.Seq.{take-append_seam}
 use Rattle.std.proofs.lemmas.Bool.{cases_lt}
-use Rattle.xs_signal.specs.Fold.{fold}
-use Rattle.xs_picture.specs.LineBands.{AreBandsOf, scaled_line}
 use Rattle.std.proofs.lemmas.Int.{ints}
 use Rattle.std.proofs.lemmas.List.{get_or_past}
 use Rattle.xs_signal.specs.Lines.{IsBelow, AllBelow, Shows, entries_of}
@@ -69,16 +67,3 @@ shown_below xs line bound most shown small k = elim (cases_lt k (length xs)) [
 -- what a lent list leaves, where it keeps its length
 pub kept : {A : Type 0} (n : ℕ) (now old : List A) → length now ≡ n → take n (now ++ drop (length now) old) ≡ now
 kept n now old same = ap (λ k. take k (now ++ drop (length now) old)) (sym same) ∙ take-append_seam now (drop (length now) old)
-
--- rows that are folded from the two parts of a line
-pub bands_from : (samples : List ℕ) (width : ℕ) (first second low high : List ℤ) → length low ≡ low_count width → length high ≡ high_count width
-    → ((k : ℕ) → k < length low → entries_of low k ≡ low_of width (scaled_line samples) k) → ((k : ℕ) → k < length high → entries_of high k ≡ high_of width (scaled_line samples) k)
-    → ((k : ℕ) → k < length low → entries_of first k ≡ fold 8 (entries_of low k)) → ((k : ℕ) → length low ≤ k → entries_of first k ≡ pos 0)
-    → ((k : ℕ) → k < length high → entries_of second k ≡ fold 8 (entries_of high k)) → ((k : ℕ) → length high ≤ k → entries_of second k ≡ pos 0)
-    → AreBandsOf samples (record { width = width; low = first; high = second })
-bands_from samples width first second low high lows highs low_is high_is first_is first_past second_is second_past = record {
-  low = λ k below. let inside : k < length low = omega (arith, below, lows) in first_is k inside ∙ ap (fold 8) (low_is k inside);
-  low_past = λ k past. first_past k (omega (arith, past, lows));
-  high = λ k below. let inside : k < length high = omega (arith, below, highs) in second_is k inside ∙ ap (fold 8) (high_is k inside);
-  high_past = λ k past. second_past k (omega (arith, past, highs));
-}

@@ -1,23 +1,20 @@
 -- Bytes have one picture.
-use Rattle.std.proofs.Common.{◌≡◌, ℕ, zero, suc, ◌+◌, ◌-◌, ◌*◌, ◌/◌, ◌<◌, ◌≤◌, List, [], ◌∷◌, ◌++◌, take, drop, length, min, refl, sym, ap, subst, ◌∙◌, arith, length-drop}
-use Rattle.std.specs.Prelude.{Bool, true, false, if◌then◌else◌, nat_lt, ℤ, pos}
+use Rattle.std.proofs.Common.{◌≡◌, ℕ, zero, suc, ◌+◌, ◌-◌, ◌*◌, ◌/◌, ◌<◌, ◌≤◌, List, [], ◌∷◌, take, drop, length, min, refl, sym, ap, subst, ◌∙◌, arith, length-drop}
+use Rattle.std.specs.Prelude.{Bool, if◌then◌else◌, nat_lt, pos}
 use Rattle.std.specs.List.{AllByRecursion}
-use Rattle.std.proofs.lemmas.Bool.{ltb-true}
 use Rattle.std.proofs.lemmas.List.{take-append-drop}
 use Rattle.xs_lists.specs.Spelling.{upto}
 use Rattle.xs_lists.proofs.Each.{all-range}
 use Rattle.xs_layout.specs.declared.Weight.{Weight}
-use Rattle.xs_layout.specs.Geometry.{groups_of, PacketPlace}
 use Rattle.xs_params.specs.declared.header.Header.{Header}
-use Rattle.xs_params.specs.Picture.{Picture, IsPlace}
 use Rattle.xs_signal.specs.Quantiser.{dequantised}
-use Rattle.xs_grammar.specs.Geometry.{bands_of, band_width_of, band_height_of, packet_bands, packets_of, precincts_of, precinct_count, slice_count}
+use Rattle.xs_grammar.specs.Geometry.{bands_of, band_width_of, band_height_of, packet_bands, precincts_of, precinct_count, slice_count}
 use Rattle.xs_grammar.specs.Header.{IsAccepted}
 use Rattle.xs_grammar.specs.Precinct.{Content, line_truncation}
 use Rattle.xs_grammar.specs.Laws.{SameBandLine, SamePrecinct}
 use Rattle.xs_grammar.proofs.OneStream.{one_codestream}
 use Rattle.xs_geometry.specs.SliceLines.{slice_height}
-use Rattle.xs_decoding.specs.Built.{HasBuiltValues, IsBuiltFront}
+use Rattle.xs_decoding.specs.Built.{HasBuiltValues}
 use Rattle.xs_decoding.specs.Decoded.{IsDecodingOf}
 use Rattle.xs_decoding.specs.Dequantised.{dequantised_rows}
 use Rattle.xs_decoding.specs.Laws.{SameWithin}

@@ -1,6 +1,6 @@
 -- What is written at mode 0 is of the form that is read.
-use Rattle.std.proofs.Common.{◌≡◌, ℕ, ◌+◌, ◌*◌, ◌<◌, ◌≤◌, ◌^◌, List, [], ◌∷◌, ◌++◌, map, length, refl, sym, ap, subst, ◌∙◌, arith, inr, append-nil}
-use Rattle.std.specs.Prelude.{Bool, true, false, nat_lt, ◌&&◌, if◌then◌else◌, ◌⊎◌, Ok}
+use Rattle.std.proofs.Common.{◌≡◌, ℕ, ◌+◌, ◌<◌, ◌^◌, List, [], ◌∷◌, ◌++◌, map, length, refl, sym, ap, subst, ◌∙◌, arith, inr, append-nil}
+use Rattle.std.specs.Prelude.{Bool, true, false, nat_lt, Ok}
 use Rattle.std.specs.List.{flat_map, list_all, sum_by, concat, AllByRecursion}
 use Rattle.std.proofs.Math.Path.{fun_ext}
 use Rattle.std.proofs.lemmas.Bool.{and_parts, ltb-true}
@@ -10,29 +10,25 @@ use Rattle.xs_lists.specs.Bits.{bit_of, bits_of_fields, HaveRoom}
 use Rattle.xs_lists.specs.Packing.{missing_bits}
 use Rattle.xs_lists.specs.Spelling.{upto, SpellsEach}
 use Rattle.xs_lists.proofs.Bitwise.{fields-are}
-use Rattle.xs_lists.proofs.Cut.{all-both, head_agrees, same_head}
+use Rattle.xs_lists.proofs.Cut.{all-both, head_agrees}
 use Rattle.xs_lists.proofs.Each.{each-made, each-same, range-all}
 use Rattle.xs_lists.proofs.Packing.{spells_packed}
 use Rattle.xs_lists.proofs.Walk.{all-of_map}
 use Rattle.xs_layout.specs.Candidates.{finest}
 use Rattle.xs_layout.specs.Geometry.{PacketPlace}
 use Rattle.xs_params.specs.declared.header.Header.{Header}
-use Rattle.xs_params.specs.declared.settings.Settings.{Settings}
-use Rattle.xs_params.specs.Check.{AreInRange}
 use Rattle.xs_params.specs.Headers.{header_of}
-use Rattle.xs_params.specs.Picture.{Picture}
 use Rattle.xs_params.specs.Stream.{Stream, stream_bytes, end_marker}
 use Rattle.xs_spelling.proofs.OneData.{bit_of-one}
 use Rattle.xs_grammar.specs.Geometry.{bands_of, packet_bands, packets_of, precincts_of, slice_count}
 use Rattle.xs_grammar.specs.Packet.{packet_fields}
 use Rattle.xs_grammar.specs.Precinct.{Content, IsPrecinct, SpellsPacket, precinct_fields}
-use Rattle.xs_grammar.specs.Slice.{IsSlice, slice_head}
-use Rattle.xs_grammar.specs.Codestream.{IsCodestream}
-use Rattle.xs_grammar.specs.Coded.{field_bytes, lines_fields, packet_line, packet_bytes, packet_fits, precinct_body, precinct_bytes, precinct_fits, slice_bytes, slice_fits, header_bytes, flags_part, counts_part, data_part, signs_part, IsWritable, IsWritableLine, IsWritablePrecinct, HasRoom}
+use Rattle.xs_grammar.specs.Slice.{IsSlice}
+use Rattle.xs_grammar.specs.Coded.{field_bytes, lines_fields, packet_line, packet_bytes, packet_fits, precinct_body, precinct_bytes, precinct_fits, slice_bytes, slice_fits, header_bytes, flags_part, counts_part, data_part, signs_part, IsWritable, IsWritableLine, IsWritablePrecinct}
 use Rattle.xs_grammar.proofs.Coded.{widths, list_all-all, fits-room, fields_whole, packet_coded, writable_everywhere}
 use Rattle.xs_rate.specs.Coefficients.{Rows, rows_of}
 use Rattle.xs_rate.specs.Content.{content_of}
-use Rattle.xs_rate.specs.Encoding.{IsBuilt, content_at, slice_at, slices_at, stream_of, encoding_of, chosen_candidate}
+use Rattle.xs_rate.specs.Encoding.{content_at, slice_at, stream_of, encoding_of}
 use Rattle.xs_rate.specs.Encoded.{NoneOver, chosen_content, chosen_stream, stated_header, IsEncoding}
 use Rattle.xs_rate.specs.Laws.{AreSmall}
 use Rattle.xs_rate.proofs.Rows.{small_rows}
@@ -42,7 +38,7 @@ use Rattle.xs_rate.proofs.Encoded.{line-writable, chosen-finest, encoded_in_gram
 use Rattle.xs_rate.proofs.FirstOver.{first_over_law}
 use Rattle.xs_rate.proofs.GreySlices.{one_candidate}
 use Rattle.xs_markers.proofs.ReadAgain.{written_built}
-use Rattle.xs_decoding.specs.Built.{HasBuiltValues, IsBuiltHeader, IsBuiltPacket, IsBuiltPrecinct, IsBuiltSlice, IsBuiltStream}
+use Rattle.xs_decoding.specs.Built.{IsBuiltHeader, IsBuiltPacket, IsBuiltPrecinct, IsBuiltSlice, IsBuiltStream}
 use Rattle.xs_picture.specs.ReadAgain.{EncodedIsRead}
 
 -- Packets

@@ -3,6 +3,7 @@ ghost use Rattle.std.specs.Prelude.{◌≡◌, ⊤, ℕ, ◌<◌, ◌≤◌, ◌
 ghost use Rattle.xs_layout.specs.Candidates.{finest};
 ghost use Rattle.xs_params.specs.Headers.{header_of};
 ghost use Rattle.xs_grammar.specs.Geometry.{slice_count};
+ghost use Rattle.xs_geometry.specs.Kept.{geometry_of};
 ghost use Rattle.xs_rate.specs.Coefficients.{rows_of};
 ghost use Rattle.xs_rate.specs.Encoding.{IsBuilt, encoding_of, slice_at, slices_at, stream_of};
 ghost use Rattle.xs_rate.specs.Encoded.{NoneOver};
@@ -54,7 +55,7 @@ fn encode_slices(
     let asked = settings.settings();
     let height = u32::from(asked.hsl);
     let count = (asked.shape.height + height - 1) / height;
-    let mut rows = match LineRows::blank(alloc, asked.shape.width) {
+    let mut rows = match blank_rows(alloc, settings) {
         Ok(rows) => rows,
         Err(Memory) => return Err(SliceRefusal::Memory),
     };
@@ -67,6 +68,16 @@ fn encode_slices(
         add(&mut slices, bytes)?;
     }
     Ok(slices)
+}
+
+// The rows for the lines of a picture.
+fn blank_rows(alloc: Global, settings: &Checked) -> Result<LineRows, Memory>
+    requires built { IsBuilt settings.now }
+    ensures layout { IfOk result (λ rows. rows.layout ≡ geometry_of (header_of settings.now)) }
+{
+    let _asked = settings.settings();
+    let header = settings.header(alloc)?;
+    LineRows::blank(alloc, &header)
 }
 
 // One more slice.
@@ -91,11 +102,11 @@ fn encode_within(
     requires built { IsBuilt settings.now }
     requires shape { planes.now.shape ≡ settings.now.shape }
     requires slice { slice < slice_count (header_of settings.now) }
-    requires width { rows.old.width ≡ settings.now.shape.width }
+    requires layout { rows.old.layout ≡ geometry_of (header_of settings.now) }
     ensures bytes { IfOk result (λ bytes. bytes ≡ slice_at (header_of settings.now) (rows_of (header_of settings.now) planes.now) slice finest) }
     ensures within { IfOk result (λ bytes. length bytes ≤ settings.now.share) }
     ensures over { MatchResult result (λ _. ⊤) (IsOver (header_of settings.now) (rows_of (header_of settings.now) planes.now) settings.now.share slice) }
-    ensures width { rows.new.width ≡ rows.old.width }
+    ensures layout { rows.new.layout ≡ rows.old.layout }
 {
     let share = settings.settings().share;
     match encode_slice(alloc, planes, settings, slice, rows) {

@@ -4,6 +4,7 @@ ghost use Rattle.xs_params.specs.declared.settings.Settings.{Settings};
 ghost use Rattle.xs_params.specs.Check.{AreInRange};
 ghost use Rattle.xs_params.specs.Headers.{header_of};
 ghost use Rattle.xs_layout.specs.Candidates.{finest};
+ghost use Rattle.xs_geometry.specs.Kept.{geometry_of};
 ghost use Rattle.xs_rate.specs.Coefficients.{rows_of};
 ghost use Rattle.xs_rate.specs.Encoding.{IsBuilt, slice_at};
 ghost use Rattle.xs_grammar.specs.Geometry.{slice_count};
@@ -29,9 +30,9 @@ pub fn encode_slice(
     requires built { IsBuilt settings.now }
     requires shape { planes.now.shape ≡ settings.now.shape }
     requires slice { slice < slice_count (header_of settings.now) }
-    requires width { rows.old.width ≡ settings.now.shape.width }
+    requires layout { rows.old.layout ≡ geometry_of (header_of settings.now) }
     ensures bytes { IfOk result (λ bytes. bytes ≡ slice_at (header_of settings.now) (rows_of (header_of settings.now) planes.now) slice finest) }
-    ensures width { rows.new.width ≡ rows.old.width }
+    ensures layout { rows.new.layout ≡ rows.old.layout }
 {
     let asked = settings.settings();
     let height = u32::from(asked.hsl);

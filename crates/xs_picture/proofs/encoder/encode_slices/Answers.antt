@@ -21,7 +21,7 @@ slices-preserved c =
     record {
       bytes = c.in_ok-add.ensures.added ∙ pictures.slices_more (λ slice. slice_at h rows slice finest) c.slices.slices.items c.slices.slice c.in-Ok-encode_within.bytes c.slices.invariant.bytes c.in-Ok-encode_within.ensures.bytes;
       within = pictures.within_more h rows s.share c.slices.slice c.in-Ok-encode_within.bytes c.in-Ok-encode_within.ensures.bytes c.in-Ok-encode_within.ensures.within c.slices.invariant.within;
-      width = c.in-Ok-encode_within.ensures.width ∙ c.slices.invariant.width;
+      layout = c.in-Ok-encode_within.ensures.layout ∙ c.slices.invariant.layout;
     }
 
 pub returns-clause-slices : goal.returns-clause-slices

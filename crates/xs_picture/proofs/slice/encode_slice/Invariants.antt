@@ -11,5 +11,5 @@ abbrev pub invariant-lines : goal.invariant-lines
 invariant-lines l = record {
   bits : l.out.bits ≡ bits_of_bytes (slice_head l.slice ++ flat_map (line_precinct (header_of l.settings) (rows_of (header_of l.settings) l.planes)) (range_with_len l.first (l.line - l.first)));
   border : length l.out.bits % 8 ≡ 0;
-  width : l.rows.width ≡ l.initial.rows.width;
+  layout : l.rows.layout ≡ l.initial.rows.layout;
 }
