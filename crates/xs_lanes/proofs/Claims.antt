@@ -1,22 +1,20 @@
 -- The step Claim keeps the rule of the table.
-use Rattle.std.proofs.Common.{◌≡◌, ◌≢◌, ℕ, zero, suc, ◌+◌, ◌*◌, ◌<◌, ◌≤◌, min, Bool, true, false, cond, List, [], ◌∷◌, length, length-set, get_or, set, sum_by, Option, Some, None, sym, refl, ap, ◌∙◌, subst, arith}
-use Rattle.std.specs.List.{Contains}
+use Rattle.std.proofs.Common.{◌≡◌, ◌≢◌, ℕ, zero, suc, ◌*◌, ◌<◌, min, Bool, true, false, List, length, get_or, set, Option, sym, refl, ap, ◌∙◌, subst, arith}
 use Rattle.std.proofs.lemmas.List.Elements.{All-contains}
 use mathlib.Core.Option.{none}
 use mathlib.Core.Option as maybe
 use mathlib.Core.Logic.{dite}
 use native.Mathlib.Decide.{ℕ_discrete}
-use Rattle.atomic_table.specs.Table.{State, Me, keeps, step, Allows}
-use Rattle.xs_lane_core.specs.Places.{places, has}
+use Rattle.atomic_table.specs.Table.{Me, keeps, step, Allows}
 use Rattle.xs_lane_core.specs.declared.values.Stand.TheVariants.{Saw, Pulling}
-use Rattle.xs_lane_core.specs.Machine.{Placing, Lane, Actor, Machine, lane_in, lane_at, actor_at, value_at, nobody, acted, changed, with_claim, stands, finds_gone}
+use Rattle.xs_lane_core.specs.Machine.{Placing, Lane, Actor, Machine, lane_in, lane_at, actor_at, nobody, acted, changed, with_claim, stands, finds_gone}
 use Rattle.xs_lane_core.specs.Steps.{is_free}
-use Rattle.xs_lane_core.specs.Sound.{pulling, in_lane, drawn, flag, IsSound}
+use Rattle.xs_lane_core.specs.Sound.{pulling, in_lane, flag, IsSound}
 use Rattle.xs_lane_core.proofs.Frames.{free_counts_none, counts_pulling}
 use Rattle.xs_lane_core.proofs.Free.{gone_sound}
 use Rattle.xs_lane_core.proofs.Claiming.{claims_sound}
-use Rattle.xs_lane_core.proofs.Turns.{part_same, got_same, got_within}
-use Rattle.xs_lanes.specs.Filing.{lane_word, word_at, ShowsSlots, Shows, Filed}
+use Rattle.xs_lane_core.proofs.Turns.{got_same, got_within}
+use Rattle.xs_lanes.specs.Filing.{lane_word, word_at, Shows, Filed}
 use Rattle.xs_lanes.specs.Knowing.{IsAlone}
 use Rattle.xs_lanes.specs.Claiming.{got_in, FindsClaim}
 use Rattle.xs_lanes.specs.Plays.{claimed}

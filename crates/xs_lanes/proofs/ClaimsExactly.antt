@@ -1,17 +1,17 @@
 -- Who has the whole share is answered to a claim as the machine answers.
-use Rattle.std.proofs.Common.{◌≡◌, ℕ, ◌<◌, ◌≤◌, min, Bool, true, false, if◌then◌else◌, nat_eq, eq-eqb, List, length, length-set, get_or-set_same, sym, refl, ap, ◌∙◌, subst, arith}
+use Rattle.std.proofs.Common.{◌≡◌, ℕ, ◌<◌, min, Bool, true, if◌then◌else◌, eq-eqb, List, length, length-set, get_or-set_same, sym, ap, ◌∙◌, subst, arith}
 use Rattle.std.specs.List.{Contains}
 use Rattle.xs_lane_core.specs.Places.{every_place}
 use Rattle.xs_lane_core.specs.declared.values.Stand.TheVariants.{Idle, Saw}
 use Rattle.xs_lane_core.specs.Machine.{Placing, Actor, Machine, lane_at, actor_at, nobody, acted, sees}
 use Rattle.xs_lane_core.specs.Steps.{Answer, is_free, looks, claims}
-use Rattle.xs_lane_core.specs.Sound.{flag, IsSound}
-use Rattle.xs_lane_core.specs.Claim.{IsStored, ClaimGives}
+use Rattle.xs_lane_core.specs.Sound.{flag}
+use Rattle.xs_lane_core.specs.Claim.{ClaimGives}
 use Rattle.xs_lane_core.proofs.Gives.{gives_more}
 use Rattle.xs_lanes.specs.declared.claim.Claim.{Claim}
 use Rattle.xs_lanes.specs.declared.claim.Claim.TheVariants as claim
 use Rattle.xs_lanes.specs.Knowing.{IsAlone, FindsHome}
-use Rattle.xs_lanes.specs.Claiming.{got_in, FindsClaim, IsClaimOf, HasGot, gets_all}
+use Rattle.xs_lanes.specs.Claiming.{got_in, IsClaimOf, gets_all}
 use Rattle.xs_lanes.specs.Claimed.{ClaimAnswers, ClaimExactly}
 use Rattle.xs_lanes.specs.Exact.{HasActor}
 use Rattle.xs_lanes.proofs.Knows.{alone_is_stored}

@@ -1,15 +1,14 @@
 -- The steps that draw the next value of a claimed lane, and give its slot back, keep the rule of the table.
-use Rattle.std.proofs.Common.{◌≡◌, ◌≢◌, ℕ, zero, suc, ◌+◌, ◌*◌, ◌^◌, ◌%◌, ◌<◌, ◌≤◌, true, false, true≢false, if◌then◌else◌, List, [], ◌∷◌, ◌++◌, length, length-set, get_or, get_or-set_same, get_or-set_other, set, sum_by, Option, Some, None, is_some, sym, refl, ap, ◌∙◌, subst, arith, mod-eq_of_lt}
+use Rattle.std.proofs.Common.{◌≡◌, ◌≢◌, ℕ, zero, suc, ◌+◌, ◌*◌, ◌^◌, ◌%◌, ◌<◌, true≢false, if◌then◌else◌, List, ◌∷◌, length, get_or, get_or-set_same, get_or-set_other, set, Option, Some, None, is_some, sym, refl, ap, ◌∙◌, subst, arith, mod-eq_of_lt}
 use Rattle.std.proofs.lemmas.List.Sums.{sum_by_push}
 use Rattle.std.proofs.lemmas.Nat.Bits.{bit_at-lt}
 use mathlib.Core.Option.{some, none}
 use mathlib.Core.Option as maybe
 use mathlib.Core.Logic.{dite}
 use native.Mathlib.Decide.{ℕ_discrete}
-use lib.ListN.{get_elem?}
-use Rattle.atomic_table.specs.Table.{State, Me, takes, gives, step, Allows, rest}
+use Rattle.atomic_table.specs.Table.{Me, takes, gives, step, Allows}
 use Rattle.atomic_table.proofs.Lists.{set_again}
-use Rattle.xs_lane_core.specs.Places.{places, has, HasEvery}
+use Rattle.xs_lane_core.specs.Places.{places, HasEvery}
 use Rattle.xs_lane_core.specs.declared.values.Stand.{Stand}
 use Rattle.xs_lane_core.specs.declared.values.Stand.TheVariants.{Idle, Saw, Holding, Laid, Pulling, Spent}
 use Rattle.xs_lane_core.specs.Machine.{Placing, Lane, Actor, Machine, lane_at, actor_at, value_at, nobody, changed, with_value, gets}

@@ -1,29 +1,27 @@
 -- What a table that no thread shares any more shows, where one pass has the whole share.
-use Rattle.std.proofs.Common.{◌≡◌, ◌≢◌, ℕ, zero, suc, ◌+◌, ◌*◌, ◌^◌, ◌<◌, ◌≤◌, min, Bool, true, false, not, nat_eq, nat_lt, eq-eqb, ne_eqb, MatchBool, List, [], ◌∷◌, length, get_or, All, Option, bit_and, sym, refl, ap, ◌∙◌, subst, arith}
-use Rattle.std.specs.List.{Contains}
+use Rattle.std.proofs.Common.{◌≡◌, ℕ, zero, suc, ◌^◌, ◌<◌, ◌≤◌, min, Bool, true, not, nat_eq, nat_lt, eq-eqb, ne_eqb, MatchBool, List, [], ◌∷◌, length, get_or, Option, bit_and, sym, refl, ap, ◌∙◌, subst, arith}
 use Rattle.std.proofs.lemmas.Bool.{lt-ltb}
-use Rattle.std.proofs.lemmas.List.Elements.{All-weaker, All-contains}
+use Rattle.std.proofs.lemmas.List.Elements.{All-weaker}
 use Rattle.std.proofs.lemmas.Nat.Bits.{bit_at-lt, bit_at_ones, same_from_bits_below}
 use mathlib.Core.Option.{some}
 use mathlib.Core.Logic.{dite}
 use native.Mathlib.Decide.{ℕ_discrete}
 use lib.ListN.{get_elem?}
 use Rattle.atomic_table.specs.Table.{State, Final, Seen}
-use Rattle.xs_lane_core.specs.Places.{places, has, only, every_place, IsWithin}
+use Rattle.xs_lane_core.specs.Places.{has, only, every_place, IsWithin}
 use Rattle.xs_lane_core.specs.Machine.{Placing, Actor, Machine, lane_in, lane_at, actor_at, nobody}
 use Rattle.xs_lane_core.specs.Steps.{is_free}
-use Rattle.xs_lane_core.specs.Sound.{at, in_lane, drawn, flag, IsSound}
-use Rattle.xs_lane_core.specs.Claim.{IsStored}
+use Rattle.xs_lane_core.specs.Sound.{at, flag, IsSound}
 use Rattle.xs_lane_core.proofs.Free.{every_has}
 use Rattle.xs_lane_core.proofs.Kept.{mask_test}
 use Rattle.xs_lane_core.proofs.Meanings.{got_was_stored}
 use Rattle.xs_lane_core.proofs.Turns.{got_within}
 use Rattle.xs_lanes.specs.Filing.{word_at, Filed}
-use Rattle.xs_lanes.specs.Knowing.{IsAlone, IsChoice, stored_at, brought_at}
-use Rattle.xs_lanes.specs.Claiming.{got_in, got_at}
+use Rattle.xs_lanes.specs.Knowing.{IsAlone, stored_at, brought_at}
+use Rattle.xs_lanes.specs.Claiming.{got_in}
 use Rattle.xs_lanes.specs.Settled.{IsWhole, Settled, IsDone}
 use Rattle.xs_lanes.proofs.Lists.{at_view}
-use Rattle.xs_lanes.proofs.Knows.{alone_taken, alone_stored, alone_got, finds_choice, finds_home, alone_is_stored}
+use Rattle.xs_lanes.proofs.Knows.{alone_taken, alone_stored, finds_choice, finds_home, alone_is_stored}
 use Rattle.xs_lanes.proofs.Claims.{finds_claim}
 
 over_none : (n : ℕ) → not (nat_eq n 0) ≡ nat_lt 0 n

@@ -1,12 +1,10 @@
 -- What each event of the machine does where it is allowed.
-use Rattle.std.proofs.Common.{◌≡◌, ◌≢◌, ℕ, ◌+◌, ◌<◌, Bool, true, false, if◌then◌else◌, not, nat_eq, nat_lt, eq-eqb, ne_eqb, List, [], ◌∷◌, ◌++◌, length, length-set, get_or-set_same, set, Option, Some, None, sym, refl, ap, ◌∙◌, arith}
+use Rattle.std.proofs.Common.{◌≡◌, ℕ, ◌+◌, ◌<◌, Bool, true, false, if◌then◌else◌, nat_eq, nat_lt, eq-eqb, ne_eqb, length, length-set, get_or-set_same, set, Option, Some, None, ap, ◌∙◌, arith}
 use Rattle.std.proofs.lemmas.Bool.{lt-ltb}
-use Rattle.std.proofs.lemmas.Nat.Bits.{bit_at-lt}
 use Rattle.xs_lane_core.specs.Places.{places, has, every_place, with_places}
-use Rattle.xs_lane_core.specs.declared.values.Stand.{Stand}
 use Rattle.xs_lane_core.specs.declared.values.Stand.TheVariants.{Idle, Saw, Holding, Laid, Pulling}
-use Rattle.xs_lane_core.specs.Machine.{Placing, Lane, Actor, Machine, lane_in, lane_at, actor_at, value_at, nobody, acted, changed, with_taken, with_home, with_claim, with_value, stands, repeats, stores, sees, finds_gone, gets, mask}
-use Rattle.xs_lane_core.specs.Steps.{Answer, Taken, Back, Lies, Seen, Claimed, Gone, Pulled, Refused, allowed, is_free, takes, puts_here, puts, home_answer, homes_here, homes, looks, claims_here, claims, pulled, pulls_here, pulls}
+use Rattle.xs_lane_core.specs.Machine.{Placing, Lane, Actor, Machine, lane_at, actor_at, value_at, nobody, acted, changed, with_taken, with_home, with_claim, with_value, stands, repeats, stores, sees, finds_gone, gets, mask}
+use Rattle.xs_lane_core.specs.Steps.{Answer, Taken, Back, Lies, Seen, Claimed, Gone, Pulled, allowed, is_free, takes, puts_here, puts, home_answer, homes_here, homes, looks, claims_here, claims, pulled, pulls_here, pulls}
 use Rattle.xs_lane_core.proofs.Turns.{lane_here}
 use Rattle.xs_lanes.proofs.Lists.{set_twice}
 

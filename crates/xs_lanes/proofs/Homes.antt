@@ -1,23 +1,22 @@
 -- The step Home keeps the rule of the table: the value in the slot is put at its place, and is home.
-use Rattle.std.proofs.Common.{◌≡◌, ◌≢◌, ℕ, zero, suc, ◌+◌, ◌*◌, ◌^◌, ◌<◌, ◌≤◌, List, [], ◌∷◌, length, length-set, get_or, get_or-set_same, get_or-set_other, set, Option, Some, None, bit_or, sym, refl, ap, ◌∙◌, subst, arith}
+use Rattle.std.proofs.Common.{◌≡◌, ◌≢◌, ℕ, zero, suc, ◌*◌, ◌<◌, List, ◌∷◌, length, get_or, get_or-set_same, get_or-set_other, set, Option, Some, None, bit_or, sym, refl, ap, ◌∙◌, subst, arith}
 use Rattle.std.proofs.lemmas.Nat.Bits.{bit_at-lt}
 use mathlib.Core.Option.{some, none}
 use mathlib.Core.Option as maybe
 use mathlib.Core.Logic.{dite}
 use native.Mathlib.Decide.{ℕ_discrete}
-use lib.ListN.{get_elem?}
-use Rattle.atomic_table.specs.Table.{State, Me, gives, step, Allows, rest}
+use Rattle.atomic_table.specs.Table.{Me, gives, step, Allows}
 use Rattle.xs_lane_core.specs.Places.{places, has, with_places}
-use Rattle.xs_lane_core.specs.declared.values.Stand.TheVariants.{Holding, Laid}
-use Rattle.xs_lane_core.specs.Machine.{Placing, Lane, Actor, Machine, lane_in, lane_at, actor_at, value_at, nobody, acted, changed, with_home, with_value, stands, stores, mask}
+use Rattle.xs_lane_core.specs.declared.values.Stand.TheVariants.{Holding}
+use Rattle.xs_lane_core.specs.Machine.{Placing, Lane, Actor, Machine, lane_at, actor_at, nobody, changed, stores, mask}
 use Rattle.xs_lane_core.specs.Steps.{Answer}
 use Rattle.xs_lane_core.specs.Sound.{holding, in_lane, IsSound}
 use Rattle.xs_lane_core.proofs.Placed.{at_here}
-use Rattle.xs_lane_core.proofs.Turns.{lane_here, got_same, stand_within}
+use Rattle.xs_lane_core.proofs.Turns.{got_same, stand_within}
 use Rattle.xs_lane_core.proofs.Keeps.{put_keeps, home_keeps}
 use Rattle.xs_lanes.specs.Filing.{lane_word, word_at, slot_at, ShowsSlots, Shows, Filed}
 use Rattle.xs_lanes.specs.Knowing.{FindsHome}
-use Rattle.xs_lanes.specs.Plays.{first_item, came_home}
+use Rattle.xs_lanes.specs.Plays.{came_home}
 use Rattle.xs_lanes.proofs.Lists.{at_view}
 use Rattle.xs_lanes.proofs.Events.{brought, held_homes_is}
 use Rattle.xs_lanes.proofs.Held.{holds_another}

@@ -1,5 +1,5 @@
 -- What a pass knows is true of the words, and who has the whole share knows them all.
-use Rattle.std.proofs.Common.{◌≡◌, ◌≢◌, ℕ, zero, suc, ◌+◌, ◌-◌, ◌*◌, ◌^◌, ◌<◌, ◌≤◌, min, true, true≢false, List, [], ◌∷◌, length, get_or, sum_by, All, sym, refl, ap, ◌∙◌, subst, arith, zero-mul}
+use Rattle.std.proofs.Common.{◌≡◌, ◌≢◌, ℕ, zero, suc, ◌+◌, ◌-◌, ◌*◌, ◌^◌, ◌<◌, true, List, [], ◌∷◌, length, get_or, sum_by, sym, refl, ap, ◌∙◌, subst, arith, zero-mul}
 use Rattle.std.proofs.lemmas.Nat.{pow-add}
 use Rattle.std.proofs.lemmas.List.Sums.{sum_by-cons}
 use Rattle.std.proofs.lemmas.List.Elements.{All-weaker, All-contains}
@@ -19,7 +19,7 @@ use Rattle.xs_lane_core.proofs.Placed.{brings_here}
 use Rattle.xs_lane_core.proofs.Finds.{stored_counts}
 use Rattle.xs_lane_core.proofs.Frames.{free_counts_none, counts_holding, counts_laid}
 use Rattle.xs_lane_core.proofs.Turns.{stored_within}
-use Rattle.xs_lanes.specs.Knowing.{IsAlone, IsChoice, stored_at, brought_at, FindsTaken, FindsHome}
+use Rattle.xs_lanes.specs.Knowing.{IsAlone, IsChoice, stored_at, FindsTaken, FindsHome}
 
 module _ {A : Type 0} (f : A → ℕ) where
   sum_none : (l : List A) (d : A) → ((j : ℕ) → j < length l → f (get_or l j d) ≡ 0) → sum_by f l ≡ 0

@@ -1,17 +1,16 @@
 -- Each kind of step is the event of its name.
-use Rattle.std.proofs.Common.{◌≡◌, ◌≢◌, ℕ, ◌+◌, ◌<◌, Bool, true, false, List, [], ◌∷◌, ◌++◌, length, length-set, get_or, get_or-set_other, set, sum_by, Option, sym, refl, ap, ◌∙◌, subst, arith}
-use Rattle.std.proofs.lemmas.List.Sums.{sum_by-set, sum_by_push, sum_by-append}
+use Rattle.std.proofs.Common.{◌≡◌, ℕ, ◌<◌, Bool, true, false, List, length, set, Option, sym, refl, ap, ◌∙◌, subst, arith}
 use mathlib.Core.Option as maybe
 use Rattle.xs_lane_core.specs.Places.{has}
-use Rattle.xs_lane_core.specs.declared.values.Stand.TheVariants.{Saw, Pulling}
-use Rattle.xs_lane_core.specs.Machine.{Placing, Actor, Machine, lane_at, actor_at, nobody, halves, copied, joined}
-use Rattle.xs_lane_core.specs.Steps.{Answer, looks, claims, pulls, splits, joins}
-use Rattle.xs_lane_core.specs.Sound.{drawn, in_lane, PullsNext, IsSound}
+use Rattle.xs_lane_core.specs.declared.values.Stand.TheVariants.{Saw}
+use Rattle.xs_lane_core.specs.Machine.{Placing, Machine, lane_at, actor_at}
+use Rattle.xs_lane_core.specs.Steps.{Answer, claims}
+use Rattle.xs_lane_core.specs.Sound.{drawn, in_lane, PullsNext}
 use Rattle.xs_lane_core.proofs.Cases.{looks_case, splits_case, joins_case}
 use Rattle.xs_lane_core.proofs.Keeps.{take_keeps, put_keeps, home_keeps, look_keeps, claim_keeps, pull_keeps, split_keeps, join_keeps}
 use Rattle.xs_lane_core.proofs.Turns.{got_same}
 use Rattle.xs_lanes.specs.Filing.{word_at, Shows}
-use Rattle.xs_lanes.specs.Events.{ShowsSound, TakesAsEvent, ComesHomeAsEvent, LooksAsEvent, ClaimsAsEvent, PullsAsEvent, SplitsAsEvent, JoinsAsEvent}
+use Rattle.xs_lanes.specs.Events.{TakesAsEvent, ComesHomeAsEvent, LooksAsEvent, ClaimsAsEvent, PullsAsEvent, SplitsAsEvent, JoinsAsEvent}
 use Rattle.xs_lanes.proofs.Shown.{shows_acted}
 use Rattle.xs_lanes.proofs.Held.{holds_another}
 use Rattle.xs_lanes.proofs.Events.{takes_free_is, takes_held_is, held_homes_is, claims_open_is, claims_gone_is, pulls_is}

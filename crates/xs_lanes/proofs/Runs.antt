@@ -1,5 +1,5 @@
 -- The values that a claim pulls, one after the other, are those that the machine's claim gives.
-use Rattle.std.proofs.Common.{◌≡◌, ◌≢◌, ℕ, zero, suc, ◌+◌, ◌<◌, true, false, true≢false, if◌then◌else◌, Bool, List, [], ◌∷◌, ◌++◌, length, length-append, append-nil, append_assoc, Option, None, sum_by, sym, refl, ap, ◌∙◌, subst, arith}
+use Rattle.std.proofs.Common.{◌≡◌, ℕ, suc, ◌+◌, ◌<◌, true, false, true≢false, if◌then◌else◌, Bool, List, [], ◌∷◌, ◌++◌, length, length-append, append-nil, append_assoc, Option, None, sym, refl, ap, ◌∙◌, subst, arith}
 use Rattle.std.specs.List.{Contains}
 use Rattle.std.proofs.lemmas.List.Sums.{sum_by_push}
 use Rattle.std.proofs.lemmas.List.Elements.{Contains-append_right}

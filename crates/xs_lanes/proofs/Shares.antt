@@ -1,12 +1,12 @@
 -- The table at the start, and the steps that cut a pass in two and make one of two.
-use Rattle.std.proofs.Common.{◌≡◌, ◌≢◌, ℕ, zero, suc, ◌+◌, ◌*◌, ◌<◌, true, true≢false, List, [], ◌∷◌, ◌++◌, length, map, replicate, get_or, get_or-set_other, set, length-set, sum_by, Option, Some, None, is_some, sym, refl, ap, ◌∙◌, subst, arith}
+use Rattle.std.proofs.Common.{◌≡◌, ◌≢◌, ℕ, zero, suc, ◌*◌, ◌<◌, true, true≢false, List, [], ◌∷◌, ◌++◌, length, map, replicate, get_or, get_or-set_other, set, length-set, sum_by, Option, Some, None, is_some, sym, refl, ap, ◌∙◌, subst, arith}
 use Rattle.std.proofs.lemmas.List.{length-replicate, length-map}
 use Rattle.std.proofs.lemmas.List.Sums.{sum_by-set, sum_by_push, sum_by-append}
-use mathlib.Core.Option.{some, none}
+use mathlib.Core.Option.{some}
 use lib.ListN.{get_elem?}
-use Rattle.atomic_table.specs.Table.{State, Splits, Joins, opening}
+use Rattle.atomic_table.specs.Table.{Splits, Joins, opening}
 use Rattle.atomic_table.proofs.Lists.{set_else}
-use Rattle.xs_lane_core.specs.Machine.{Placing, Lane, Actor, Machine, lane_in, lane_at, actor_at, value_at, empty_lane, no_lane, newcomer, nobody, start, halves, copied, joined}
+use Rattle.xs_lane_core.specs.Machine.{Placing, Lane, Actor, Machine, lane_at, actor_at, empty_lane, no_lane, newcomer, nobody, start, halves, copied, joined}
 use Rattle.xs_lane_core.specs.Steps.{is_free}
 use Rattle.xs_lane_core.specs.Sound.{drawn, in_lane}
 use Rattle.xs_lane_core.proofs.Free.{splits_sound, joins_sound}

@@ -1,5 +1,5 @@
 -- What the words and slots show after one word and one slot have changed.
-use Rattle.std.proofs.Common.{◌≡◌, ◌≢◌, ℕ, zero, suc, ◌+◌, ◌*◌, ◌<◌, ◌≤◌, List, [], ◌∷◌, length, length-set, get_or, get_or-set_same, get_or-set_other, set, Option, Some, None, sym, refl, ap, ◌∙◌, subst, arith}
+use Rattle.std.proofs.Common.{◌≡◌, ◌≢◌, ℕ, ◌+◌, ◌*◌, ◌<◌, List, length, length-set, get_or, get_or-set_same, get_or-set_other, set, Option, Some, None, sym, ap, ◌∙◌, subst, arith}
 use mathlib.Core.Option.{some, none}
 use mathlib.Core.Option as maybe
 use mathlib.Core.Logic.{dite}
@@ -7,7 +7,7 @@ use native.Mathlib.Decide.{ℕ_discrete}
 use lib.ListN.{get_elem?}
 use Rattle.atomic_table.proofs.Lists.{set_here, set_else}
 use Rattle.xs_lane_core.specs.Places.{places, has}
-use Rattle.xs_lane_core.specs.Machine.{Placing, Lane, Actor, Machine, lane_in, lane_at, value_at, no_lane, acted, changed}
+use Rattle.xs_lane_core.specs.Machine.{Placing, Lane, Actor, Machine, lane_in, lane_at, value_at, no_lane, changed}
 use Rattle.xs_lane_core.specs.Sound.{drawn}
 use Rattle.xs_lane_core.proofs.Turns.{lane_here, part_same}
 use Rattle.xs_lanes.specs.Filing.{lane_word, slot_at, ShowsSlots, Shows}

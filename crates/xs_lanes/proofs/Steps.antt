@@ -1,28 +1,20 @@
 -- Each step on a word keeps the rule of the table.
-use Rattle.std.proofs.Common.{◌≡◌, ◌≢◌, ℕ, zero, suc, ◌+◌, ◌*◌, ◌^◌, ◌<◌, ◌≤◌, Bool, true, false, if◌then◌else◌, nat_eq, List, [], ◌∷◌, ◌++◌, length, get_or, set, sum_by, Option, Some, None, bit_or, sym, refl, ap, ◌∙◌, subst, arith, max}
-use Rattle.std.proofs.lemmas.Nat.Bits.{bit_at_or, bit_at-lt, same_from_bits}
-use mathlib.Core.Option.{some, none, some-injective}
-use mathlib.Core.Option as maybe
-use mathlib.Core.Logic.{dite}
-use native.Mathlib.Decide.{ℕ_discrete}
-use lib.ListN.{get_elem?}
-use Rattle.atomic_table.specs.Table.{State, Me, keeps, takes, gives, step, Allows}
-use Rattle.xs_lane_core.specs.Places.{places, has, only, every_place, with_places}
-use Rattle.xs_lane_core.specs.declared.values.Stand.{Stand}
-use Rattle.xs_lane_core.specs.declared.values.Stand.TheVariants.{Idle, Saw, Holding, Laid, Pulling, Spent}
-use Rattle.xs_lane_core.specs.Machine.{Placing, Lane, Actor, Machine, lane_in, lane_at, actor_at, value_at, nobody, acted, changed, sees}
+use Rattle.std.proofs.Common.{◌≡◌, ℕ, ◌*◌, ◌<◌, Bool, true, false, if◌then◌else◌, nat_eq, length, get_or, set, Option, Some, sym, refl, ap, ◌∙◌, subst, arith}
+use mathlib.Core.Option.{none}
+use Rattle.atomic_table.specs.Table.{Me, keeps, step, Allows}
+use Rattle.xs_lane_core.specs.Places.{places, every_place}
+use Rattle.xs_lane_core.specs.declared.values.Stand.TheVariants.{Idle, Saw}
+use Rattle.xs_lane_core.specs.Machine.{Placing, Actor, Machine, lane_at, actor_at, value_at, nobody, acted, sees}
 use Rattle.xs_lane_core.specs.Steps.{is_free}
-use Rattle.xs_lane_core.specs.Sound.{over_got, drawn, in_lane, IsSound}
-use Rattle.xs_lane_core.proofs.Free.{back_sound, looks_sound}
-use Rattle.xs_lane_core.proofs.Taking.{takes_sound}
+use Rattle.xs_lane_core.specs.Sound.{in_lane, IsSound}
+use Rattle.xs_lane_core.proofs.Free.{looks_sound}
 use Rattle.xs_lane_core.proofs.Turns.{got_same}
-use Rattle.xs_lane_core.proofs.Placed.{only_here, only_other}
-use Rattle.xs_lanes.specs.Filing.{lane_word, word_at, slot_at, ShowsSlots, Shows, Filed}
-use Rattle.xs_lanes.specs.Knowing.{IsAlone, IsChoice, FindsTaken, FindsHome}
-use Rattle.xs_lanes.specs.Plays.{stand_seen, first_item, took, looked}
+use Rattle.xs_lanes.specs.Filing.{word_at, Shows, Filed}
+use Rattle.xs_lanes.specs.Knowing.{IsAlone, IsChoice, FindsHome}
+use Rattle.xs_lanes.specs.Plays.{stand_seen, looked}
 use Rattle.xs_lanes.proofs.Lists.{at_view, set_same}
-use Rattle.xs_lanes.proofs.Shown.{slots_after, shows_changed, shows_acted}
-use Rattle.xs_lanes.proofs.Knows.{finds_taken, finds_choice, finds_home}
+use Rattle.xs_lanes.proofs.Shown.{shows_acted}
+use Rattle.xs_lanes.proofs.Knows.{finds_choice, finds_home}
 
 -- who has looked is free
 pub seen_free : (T : Type 0) (l mask : ℕ) → is_free {V = T} (stand_seen l mask) ≡ true

@@ -1,12 +1,11 @@
 -- The step Take keeps the rule of the table.
-use Rattle.std.proofs.Common.{◌≡◌, ◌≢◌, ℕ, zero, suc, ◌+◌, ◌*◌, ◌^◌, ◌<◌, ◌≤◌, true, true≢false, List, [], ◌∷◌, length, get_or, set, Option, Some, None, is_some, bit_or, sym, refl, ap, ◌∙◌, subst, arith}
+use Rattle.std.proofs.Common.{◌≡◌, ◌≢◌, ℕ, zero, suc, ◌*◌, ◌<◌, true, List, ◌∷◌, length, get_or, set, Option, Some, None, bit_or, sym, refl, ap, ◌∙◌, subst, arith}
 use Rattle.std.proofs.lemmas.Nat.Bits.{bit_at_or, bit_at-lt, same_from_bits}
 use mathlib.Core.Option.{some, none, some-injective}
 use mathlib.Core.Option as maybe
 use mathlib.Core.Logic.{dite}
 use native.Mathlib.Decide.{ℕ_discrete}
-use lib.ListN.{get_elem?}
-use Rattle.atomic_table.specs.Table.{State, Me, keeps, takes, step, Allows}
+use Rattle.atomic_table.specs.Table.{Me, keeps, takes, step, Allows}
 use Rattle.xs_lane_core.specs.Places.{places, has, only, with_places}
 use Rattle.xs_lane_core.specs.declared.values.Stand.TheVariants.{Holding}
 use Rattle.xs_lane_core.specs.Machine.{Placing, Lane, Actor, Machine, lane_at, actor_at, value_at, nobody, acted, changed, with_taken, stands, repeats}

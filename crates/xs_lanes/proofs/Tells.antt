@@ -1,5 +1,5 @@
 -- What the number that a step found tells the caller.
-use Rattle.std.proofs.Common.{◌≡◌, ℕ, ◌<◌, Bool, MatchBool, nat_eq, eq-eqb, ne_eqb, List, [], ◌∷◌, Option, Some, None, bit_and, sym, refl, ap, ◌∙◌, subst, arith}
+use Rattle.std.proofs.Common.{◌≡◌, ℕ, ◌<◌, Bool, MatchBool, nat_eq, eq-eqb, ne_eqb, List, [], ◌∷◌, Option, Some, None, bit_and, sym, ap, ◌∙◌, subst, arith}
 use Rattle.std.specs.List.{Contains}
 use Rattle.std.proofs.lemmas.Nat.Bits.{bit_at-lt}
 use mathlib.Core.Option.{none}

@@ -4,7 +4,7 @@ use Rattle.std.specs.List.{Contains}
 use Rattle.atomic_table.specs.Table.{Me}
 use Rattle.xs_lane_core.specs.Places.{places, every_place}
 use Rattle.xs_lane_core.specs.declared.values.Stand.{Stand}
-use Rattle.xs_lane_core.specs.declared.values.Stand.TheVariants.{Idle, Saw, Pulling}
+use Rattle.xs_lane_core.specs.declared.values.Stand.TheVariants.{Idle, Pulling}
 use Rattle.xs_lane_core.specs.Machine.{Placing, Actor, Machine, actor_at, sees, finds_gone, gets}
 use Rattle.xs_lane_core.specs.Sound.{at, in_lane, IsSound}
 use Rattle.xs_lane_core.specs.Claim.{ClaimGives}

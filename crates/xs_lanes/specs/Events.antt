@@ -1,10 +1,10 @@
 -- Each kind of step changes what the table shows as the event of its name changes the machine.
-use Rattle.std.specs.Prelude.{◌≡◌, ℕ, ◌+◌, ◌<◌, true, List, [], ◌∷◌, ◌++◌, length, slice_index, slice_set, Option, Some, None}
+use Rattle.std.specs.Prelude.{◌≡◌, ℕ, ◌+◌, ◌<◌, true, List, length, slice_index, slice_set, Option, Some}
 use mathlib.Core.Option.{some, none}
 use mathlib.Core.Option as maybe
 use Rattle.xs_lane_core.specs.Places.{places, has, only, with_places}
 use Rattle.xs_lane_core.specs.declared.values.Stand.TheVariants.{Saw, Holding, Pulling}
-use Rattle.xs_lane_core.specs.Machine.{Placing, Actor, Machine, lane_at, actor_at, stands, acted, mask}
+use Rattle.xs_lane_core.specs.Machine.{Placing, Machine, actor_at, stands, acted, mask}
 use Rattle.xs_lane_core.specs.Steps.{is_free, takes, puts, homes, looks, claims, pulls, splits, joins}
 use Rattle.xs_lane_core.specs.Sound.{IsSound}
 use Rattle.xs_lanes.specs.Filing.{word_at, slot_at, Shows}

@@ -1,6 +1,6 @@
 -- The rule of the table: between any two steps its words, its slots and the views of all passes show a sound lane machine.
 -- A lane has four words and 64 slots. A place is out from its take to its home step, and stands so long as held by its pass.
-use Rattle.std.specs.Prelude.{◌≡◌, ℕ, zero, suc, ◌+◌, ◌*◌, ◌^◌, ◌<◌, Bool, List, length, Option, Some, None, slice_index}
+use Rattle.std.specs.Prelude.{◌≡◌, ℕ, zero, suc, ◌+◌, ◌*◌, ◌<◌, Bool, List, length, Option, Some, None, slice_index}
 use mathlib.Core.Option.{some, none}
 use mathlib.Core.Option as maybe
 use lib.ListN.{get_elem?}

@@ -9,6 +9,10 @@ use Rattle.xs_lane_core.specs.Sound.{at, brings}
 abbrev pub IsAlone : {T : Type 0} → Actor T → Type 0
 IsAlone v = v.parts ≡ 2 ^ v.halved
 
+-- the share is the same before and after
+abbrev pub SameShare : {T : Type 0} → Actor T → Actor T → Type 0
+SameShare v w = (w.parts ≡ v.parts) × (w.halved ≡ v.halved)
+
 module _ {T : Type 0} (k : Placing T) where
   -- how many values the pass stored at the place, and how many of its stored values bring the place home
   abbrev pub stored_at : ℕ → ℕ → Actor T → ℕ

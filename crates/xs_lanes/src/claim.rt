@@ -4,7 +4,7 @@ ghost use Rattle.std.specs.List.{Contains};
 ghost use Rattle.xs_lane_core.specs.declared.values.Stand.TheVariants.{Idle, Saw, Pulling};
 ghost use Rattle.xs_lane_core.specs.Machine.{stands, finds_gone};
 ghost use Rattle.xs_lanes.specs.Filing.{placing, slot_at};
-ghost use Rattle.xs_lanes.specs.Knowing.{IsAlone};
+ghost use Rattle.xs_lanes.specs.Knowing.{IsAlone, SameShare};
 ghost use Rattle.xs_lanes.specs.Claiming.{got_in, gets_all, IsActor, IsRun, IsClaimOf, IsPulling, HasDrawn, OwesSlot};
 ghost use Rattle.xs_lanes.specs.Passes.{IsPassOf, view, lane_count};
 ghost use Rattle.xs_lanes.specs.Claimed.{ClaimAnswers, ClaimExactly};
@@ -122,6 +122,7 @@ impl<T: Placed + Send + Drop> Lanes<T> {
         requires lane { lane < lane_count self.now }
         requires empty { into.old.items ≡ [] }
         ensures pass { IsPassOf self.now pass.new }
+        ensures share { SameShare (view pass.old) (view pass.new) }
         ensures answer { ClaimAnswers (placing T.lane_of T.slot_of T.closes_of) (view pass.old) lane result into.new.items (view pass.new) }
         ensures exact { ClaimExactly (placing T.lane_of T.slot_of T.closes_of) (lane_count self.now) (view pass.old) lane result into.new.items }
     {

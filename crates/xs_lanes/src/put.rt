@@ -7,7 +7,7 @@ ghost use Rattle.xs_lane_core.specs.Machine.{mask, repeats, stores, sees};
 ghost use Rattle.xs_lane_core.specs.Steps.{is_free};
 ghost use Rattle.xs_lanes.specs.declared.lanes.Put.TheVariants.{Made};
 ghost use Rattle.xs_lanes.specs.Filing.{placing, word_at, slot_at};
-ghost use Rattle.xs_lanes.specs.Knowing.{IsAlone, IsChoice, FindsHome, stored_at};
+ghost use Rattle.xs_lanes.specs.Knowing.{IsAlone, SameShare, IsChoice, FindsHome, stored_at};
 ghost use Rattle.xs_lanes.specs.Plays.{stand_seen};
 ghost use Rattle.xs_lanes.specs.Passes.{IsPassOf, view, lane_count};
 ghost use Rattle.xs_lanes.specs.Answers.{Answers, HasTaken, Holds};
@@ -86,6 +86,7 @@ impl<T: Placed + Send + Drop> Lanes<T> {
         requires lane { T.lane_of value < lane_count self.now }
         requires slot { T.slot_of value < 64 }
         ensures pass { IsPassOf self.now pass.new }
+        ensures share { SameShare (view pass.old) (view pass.new) }
         ensures answer { Answers (placing T.lane_of T.slot_of T.closes_of) (view pass.old) value (view pass.new) result }
         ensures exact { PutExactly (placing T.lane_of T.slot_of T.closes_of) (lane_count self.now) (view pass.old) value result }
         ensures choice { IsAlone (view pass.old) → IsChoice (placing T.lane_of T.slot_of T.closes_of) (view pass.old) }
@@ -107,6 +108,7 @@ impl<T: Placed + Send + Drop> Lanes<T> {
         requires pass { IsPassOf self.now pass.old }
         requires lane { lane < lane_count self.now }
         ensures pass { IsPassOf self.now pass.new }
+        ensures share { SameShare (view pass.old) (view pass.new) }
         ensures seen { view pass.new ≡ sees (stand_seen lane result) lane result (view pass.old) }
         ensures found { FindsHome (placing T.lane_of T.slot_of T.closes_of) (view pass.old) lane result }
         ensures exact { LookExactly (placing T.lane_of T.slot_of T.closes_of) (lane_count self.now) (view pass.old) lane result }

@@ -1,6 +1,5 @@
-use Rattle.std.proofs.Common.{rules, arith, ◌≡◌, ◌<◌, ◌*◌, ◌∷◌, [], Some, None, sym, ap, ◌∙◌}
+use Rattle.std.proofs.Common.{rules, arith, ◌∷◌, [], Some, sym, ap, ◌∙◌}
 use Rattle.atomic_table.specs.Table.{rest}
-use Rattle.xs_lane_core.specs.Machine.{Actor}
 use Rattle.xs_lanes.specs.Filing.{placing, word_at, slot_at}
 use Rattle.xs_lanes.proofs.Homes.{comes_home}
 use Rattle.xs_lanes.proofs.Tells.{home_tells}

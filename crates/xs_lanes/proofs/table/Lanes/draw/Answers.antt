@@ -1,8 +1,7 @@
-use Rattle.std.proofs.Common.{rules, arith, ◌<◌, ◌*◌, ◌∷◌, Some, sym, ap, ◌∙◌}
+use Rattle.std.proofs.Common.{rules, arith, ◌∷◌, Some, sym, ap, ◌∙◌}
 use Rattle.atomic_table.specs.Table.{rest}
 use Rattle.xs_lanes.specs.Filing.{placing, slot_at}
 use Rattle.xs_lanes.proofs.Draws.{pulls_next}
-use Rattle.xs_lanes.proofs.Tells.{drawn_tells}
 use Rattle.xs_lanes.proofs.table.Lanes.draw.Goals as goal
 
 pub fetch_add-place-requires : goal.fetch_add-place-requires

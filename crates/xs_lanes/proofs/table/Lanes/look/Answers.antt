@@ -1,7 +1,7 @@
-use Rattle.std.proofs.Common.{rules, arith, ◌≡◌, ◌<◌, ◌*◌, true, if◌then◌else◌, nat_eq, Bool, refl, sym, ap, ◌∙◌}
+use Rattle.std.proofs.Common.{rules, arith, ap, ◌∙◌}
 use Rattle.xs_lane_core.specs.Machine.{Actor}
 use Rattle.xs_lane_core.specs.Steps.{is_free}
-use Rattle.xs_lanes.specs.Filing.{placing, word_at}
+use Rattle.xs_lanes.specs.Filing.{placing}
 use Rattle.xs_lanes.proofs.Exactly.{look_exactly}
 use Rattle.xs_lanes.proofs.Steps.{looks, seen_free}
 use Rattle.xs_lanes.proofs.table.Lanes.look.Goals as goal
@@ -21,3 +21,6 @@ returns-clause-choice g c = (c.load.ensures.2 c.args.lane c.word_at.ensures).1
 
 pub returns-clause-exact : goal.returns-clause-exact
 returns-clause-exact g c = look_exactly (placing g.T.Placed.lane_of g.T.Placed.slot_of g.T.Placed.closes_of) _ _ _ _ c.requires.pass.2 c.requires.lane (c.load.ensures.2 c.args.lane c.word_at.ensures).0
+
+pub returns-clause-share : goal.returns-clause-share
+returns-clause-share g c = let t = c.load.ensures.2 c.args.lane c.word_at.ensures in (ap (λ (v : Actor g.row.T.Denot). v.parts) t.2, ap (λ (v : Actor g.row.T.Denot). v.halved) t.2)

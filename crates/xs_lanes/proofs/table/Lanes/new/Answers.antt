@@ -1,4 +1,4 @@
-use Rattle.std.proofs.Common.{◌*◌, replicate, Option, None, refl, sym, ap, ◌∙◌, subst, ℕ, List}
+use Rattle.std.proofs.Common.{◌*◌, replicate, None, refl, sym, ◌∙◌, subst, ℕ, List}
 use Rattle.atomic_table.specs.Table.{opening}
 use Rattle.xs_lane_core.specs.Machine.{newcomer}
 use Rattle.xs_lanes.specs.Filing.{placing, Filed}

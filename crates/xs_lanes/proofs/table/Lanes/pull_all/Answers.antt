@@ -1,10 +1,10 @@
-use Rattle.std.proofs.Common.{rules, ◌≡◌, ◌-◌, ◌+◌, ◌<◌, ℕ, ◌∷◌, ◌++◌, [], List, length, length-append, arith, sym, ap, ◌∙◌, subst}
-use Rattle.xs_lane_core.specs.declared.values.Stand.TheVariants.{Idle, Pulling}
+use Rattle.std.proofs.Common.{rules, ◌≡◌, ◌-◌, ◌+◌, ◌<◌, ◌∷◌, [], List, length, length-append, arith, sym, ap, ◌∙◌, subst}
+use Rattle.xs_lane_core.specs.declared.values.Stand.TheVariants.{Idle}
 use Rattle.xs_lane_core.specs.Machine.{Actor}
 use Rattle.xs_lanes.specs.Filing.{placing}
 use Rattle.xs_lanes.specs.Claiming.{gets_all, IsRun}
 use Rattle.xs_lanes.specs.Passes.{view}
-use Rattle.xs_lanes.proofs.Runs.{HasPulled, pulled_none, pulled_more, pulled_last, claim_of}
+use Rattle.xs_lanes.proofs.Runs.{HasPulled, pulled_more, pulled_last, claim_of}
 use Rattle.xs_lanes.proofs.table.Lanes.pull_all.Goals as goal
 
 pub pull-value-requires-clause-pulling : goal.pull-value-requires-clause-pulling

@@ -1,4 +1,4 @@
-use Rattle.std.proofs.Common.{◌≡◌, ◌-◌, ℕ, [], length}
+use Rattle.std.proofs.Common.{◌≡◌, ◌-◌, [], length}
 use Rattle.xs_lanes.specs.Filing.{placing}
 use Rattle.xs_lanes.specs.Passes.{view}
 use Rattle.xs_lanes.proofs.Runs.{HasPulled}

@@ -1,4 +1,4 @@
-use Rattle.std.proofs.Common.{rules, ◌<◌, arith}
+use Rattle.std.proofs.Common.{rules, arith}
 use Rattle.xs_lanes.specs.Filing.{placing}
 use Rattle.xs_lanes.proofs.Shares.{splits}
 use Rattle.xs_lanes.proofs.table.Lanes.split.Goals as goal

@@ -1,4 +1,4 @@
-use Rattle.std.proofs.Common.{rules, arith, ◌<◌, ◌*◌, ap, ◌∙◌}
+use Rattle.std.proofs.Common.{rules, arith, ap, ◌∙◌}
 use Rattle.xs_lane_core.specs.Places.{only}
 use Rattle.xs_lanes.specs.Filing.{placing, word_at}
 use Rattle.xs_lanes.proofs.Takes.{takes_place}

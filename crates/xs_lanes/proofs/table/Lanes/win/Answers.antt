@@ -1,4 +1,4 @@
-use Rattle.std.proofs.Common.{rules, arith, ◌<◌, ◌*◌, ◌∙◌}
+use Rattle.std.proofs.Common.{rules, arith, ◌∙◌}
 use Rattle.xs_lanes.specs.Filing.{placing}
 use Rattle.xs_lanes.proofs.Claims.{claims_lane}
 use Rattle.xs_lanes.proofs.Tells.{won_tells}
