@@ -169,7 +169,7 @@ fn spellings_of_one_content_are_read_alike(rt: HostRuntime) -> Result<(), Fail> 
         let left = decoded(&rt, alloc, stream)?;
         assert_eq!(rt; left.status, 0);
         assert!(rt; left.notes.held().is_empty());
-        assert!(rt; left.output.held() == &[0; 128]);
+        assert!(rt; left.output.held() == [0; 128].as_slice());
     }
     Ok(())
 }
@@ -228,7 +228,7 @@ fn what_is_not_used_may_be_anything(rt: HostRuntime) -> Result<(), Fail> {
         let left = decoded(&rt, alloc, wide_stream(alloc, counts, groups)?)?;
         assert_eq!(rt; left.status, 0);
         assert!(rt; left.notes.held().is_empty());
-        assert!(rt; left.output.held() == &[0; 132]);
+        assert!(rt; left.output.held() == [0; 132].as_slice());
     }
     Ok(())
 }
