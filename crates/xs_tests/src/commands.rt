@@ -284,7 +284,10 @@ fn words_that_are_no_command_are_named(rt: HostRuntime) -> Result<(), Fail> {
     let alloc = rt.alloc();
     let rows = [
         ("", "", "words 0\n"),
-        ("decode", "", "words 0\n"),
+        ("trial", "", "words 0\n"),
+        ("decode", "", "words 1\n"),
+        ("decode --form rtp", "", "words 2\n"),
+        ("decode --form xs", "--workers 4", "words 3\n"),
         ("encode", "", "words 1\n"),
         ("encode --width 31", "", "words 3\n"),
         (
