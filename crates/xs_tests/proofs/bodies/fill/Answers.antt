@@ -1,4 +1,4 @@
-use Rattle.std.proofs.Common.{◌≡◌, ◌<◌, ◌^◌, sym, ap, subst, ◌∙◌, arith}
+use Rattle.std.proofs.Common.{◌<◌, ◌^◌, sym, ap, subst, ◌∙◌, arith}
 use Rattle.xs_layout.specs.Geometry.{components_of}
 use Rattle.xs_layout.specs.declared.Shape.{Shape}
 use Rattle.xs_params.specs.Picture.{IsPlace}

@@ -1,5 +1,5 @@
-use Rattle.std.proofs.Common.{◌≡◌, ℕ, ◌+◌, ◌-◌, ◌<◌, List, [], ◌∷◌, ◌++◌, length, get_or, sym, ap, subst, ◌∙◌, arith, length-append, inl, inr}
-use Rattle.xs_geometry.specs.SliceLines.{BandLines, AreLinesOf}
+use Rattle.std.proofs.Common.{◌+◌, [], ◌∷◌, length, get_or, sym, ap, subst, ◌∙◌, length-append}
+use Rattle.xs_geometry.specs.SliceLines.{AreLinesOf}
 use Rattle.xs_geometry.proofs.WrittenRows.{geometry_kept}
 use Rattle.xs_tests.proofs.Made.{slices_more}
 use Rattle.xs_tests.proofs.decoding.coefs.Goals as goal

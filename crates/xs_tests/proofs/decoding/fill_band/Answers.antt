@@ -1,4 +1,4 @@
-use Rattle.std.proofs.Common.{◌≡◌, ℕ, ap, arith}
+use Rattle.std.proofs.Common.{ℕ, ap, arith}
 use Rattle.xs_tests.proofs.Made.{line_made}
 use Rattle.xs_tests.proofs.decoding.fill_band.Goals as goal
 
