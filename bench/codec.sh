@@ -1,0 +1,46 @@
+#!/bin/sh
+# Times the encoder and the decoder on pictures of growing size, a pattern and noise: the cost of a sample must not grow with
+# the picture. Each picture must come back.
+# It uses the built program (crates/xsx/out/xsx, after `rt run` there or a whole `rt ci`), and GNU time.
+set -eu
+
+top=$(cd "$(dirname "$0")/.." && pwd)
+program=$top/crates/xsx/out/xsx
+[ -x "$program" ] || { echo "no $program: run 'rt run' in crates/xsx first" >&2; exit 1; }
+timer=$(command -v time || true)
+[ -x /usr/bin/time ] && timer=/usr/bin/time
+folder=$(mktemp -d)
+trap 'rm -rf "$folder"' EXIT
+
+# A picture of so many bytes: a ramp that repeats, or noise.
+make_picture() {
+    case $1 in
+    pattern) yes 'grey ramp 0123456789 abcdefghijklmnopqrstuvwxyz' | tr '\n' ' ' | head -c "$2" ;;
+    noise) head -c "$2" /dev/urandom ;;
+    esac
+}
+
+# Runs a command from one file to another; says what it is, how many bytes came, and what a sample of the picture cost.
+timed() {
+    what=$1
+    input=$2
+    output=$3
+    shift 3
+    "$timer" -f '%U %S %M' -o "$folder/cost" "$program" "$@" <"$input" >"$output"
+    read -r user system kilobytes <"$folder/cost"
+    awk -v n="$samples" -v u="$user" -v s="$system" -v k="$kilobytes" -v b="$(wc -c <"$output")" -v what="$what" \
+        'BEGIN { printf "%-26s %10d bytes  %7.2f s  %6.1f ns a sample  %5.1f bytes of memory a sample\n", what, b, u + s, (u + s) * 1e9 / n, k * 1024 / n }'
+}
+
+for size in 512x512 2048x2048 8192x2048; do
+    width=${size%x*}
+    height=${size#*x}
+    samples=$((width * height))
+    for kind in pattern noise; do
+        make_picture "$kind" "$samples" >"$folder/picture"
+        timed "encode $kind $size" "$folder/picture" "$folder/stream" encode --form xs --width "$width" \
+            --height "$height" --format mono --nlx 1 --nly 0 --quant deadzone --share 89598
+        timed "decode $kind $size" "$folder/stream" "$folder/back" decode --form xs
+        cmp "$folder/picture" "$folder/back"
+    done
+done
