@@ -4,7 +4,7 @@ ghost use Rattle.std.specs.List.{Contains};
 ghost use Rattle.xs_lane_core.specs.declared.values.Stand.TheVariants.{Idle, Saw, Pulling};
 ghost use Rattle.xs_lane_core.specs.Machine.{stands, finds_gone};
 ghost use Rattle.xs_lanes.specs.Filing.{placing, slot_at};
-ghost use Rattle.xs_lanes.specs.Knowing.{IsAlone, SameShare};
+ghost use Rattle.xs_lanes.specs.Knowing.{IsAlone, SameShare, IsChoice};
 ghost use Rattle.xs_lanes.specs.Claiming.{got_in, gets_all, IsActor, IsRun, IsClaimOf, IsPulling, HasDrawn, OwesSlot};
 ghost use Rattle.xs_lanes.specs.Passes.{IsPassOf, view, lane_count};
 ghost use Rattle.xs_lanes.specs.Claimed.{ClaimAnswers, ClaimExactly};
@@ -125,6 +125,7 @@ impl<T: Placed + Send + Drop> Lanes<T> {
         ensures share { SameShare (view pass.old) (view pass.new) }
         ensures answer { ClaimAnswers (placing T.lane_of T.slot_of T.closes_of) (view pass.old) lane result into.new.items (view pass.new) }
         ensures exact { ClaimExactly (placing T.lane_of T.slot_of T.closes_of) (lane_count self.now) (view pass.old) lane result into.new.items }
+        ensures choice { IsAlone (view pass.old) → IsChoice (placing T.lane_of T.slot_of T.closes_of) (view pass.old) }
     {
         let found = self.look(pass, lane);
         if found != u64::MAX {
