@@ -1,4 +1,4 @@
-use Rattle.std.proofs.Common.{◌≡◌, ℕ, ◌+◌, ◌-◌, ◌<◌, List, drop, length, get_or, sym, ap, subst, ◌∙◌, arith, length-append}
+use Rattle.std.proofs.Common.{◌≡◌, ℕ, ◌+◌, ◌-◌, ◌<◌, List, drop, length, get_or, refl, sym, ap, subst, ◌∙◌, arith, length-append}
 use Rattle.std.proofs.lemmas.List.{length-drop, get_or-drop}
 use Rattle.xs_lists.specs.Spelling.{BeginsWith}
 use Rattle.xs_grammar.specs.Slice.{eoc}
@@ -19,7 +19,7 @@ second_byte bytes place begun = sym (get_or-drop place bytes 1 0) ∙ ap (λ l. 
 
 pub returns-then-bytes-place-lt2-clause-refused : goal.returns-then-bytes-place-lt2-clause-refused
 returns-then-bytes-place-lt2-clause-refused c =
-    subst (IsStreamRefusal c.args.bytes.now) (sym c.cut.ensures) (c.requires.none (short c.args.bytes.now c.args.place c.if-bytes-place-lt2.true))
+    subst (IsStreamRefusal c.args.bytes.now) (sym c.cut.ensures) (c.requires.none (short c.args.bytes.now c.args.place c.if-bytes-place-lt2.true), refl)
 
 pub returns-then-bytes-place-clause-refused : goal.returns-then-bytes-place-clause-refused
 returns-then-bytes-place-clause-refused c =
