@@ -1,5 +1,5 @@
--- The form of codestreams that is read now: grey pictures of 8 bits, split once across and not down, with the dead-zone quantiser, signs among
--- the data and run mode 0; the header's segments in the writer's order; each band's mode 0, and no raw counts.
+-- The form of codestreams that is read now: grey pictures of 8 bits, with the dead-zone quantiser, signs among the data and run mode 0; the header's
+-- segments in the writer's order; each band's mode 0, and no raw counts.
 use Rattle.std.specs.Prelude.{◌≡◌, ◌≢◌, ℕ, ◌+◌, ◌*◌, ◌<◌, ◌≤◌, ◌⊎◌, false, List, [], ◌∷◌, ◌++◌, length, map, take, drop}
 use Rattle.xs_lists.specs.Bits.{bits_of_bytes, bytes_for}
 use Rattle.xs_lists.specs.Packing.{number_of}
@@ -22,8 +22,6 @@ pub record HasBuiltValues (h : Header) : Type 0 where
   pub format : h.shape.format ≡ Mono
   pub depth : h.shape.depth ≡ 8
   pub colour : h.colour ≡ false
-  pub across : h.nlx ≡ 1
-  pub down : h.nly ≡ 0
   pub quant : h.quant ≡ DeadZone
   pub signs : h.signs_apart ≡ false
   pub runs : h.run_mode ≡ 0
@@ -92,16 +90,39 @@ mode_at bytes band = number_of (take 2 (drop (40 + 2 * band) (bits_of_bytes byte
 abbrev pub HasMode : Header → List ℕ → Type 0
 HasMode h bytes = (band : ℕ) × (band < bands_of h) × (mode_at bytes band ≢ 0)
 
--- the header of the first packet is within the precinct and says that the counts are raw
-pub record HasRawCounts (h : Header) (bytes : List ℕ) : Type 0 where
-  pub within : head_size h ≤ stated_size bytes
-  pub raw : take 1 (drop (8 * precinct_head_size h) (bits_of_bytes bytes)) ≡ 1 ∷ []
+-- the quantisation and the refinement in its header
+abbrev pub q_at : List ℕ → ℕ
+q_at bytes = number_of (take 8 (drop 24 (bits_of_bytes bytes)))
 
--- the first packet of the precinct at the front of the bytes is of a form that is not read yet; there is no second one
-pub record IsUnbuilt (h : Header) (bytes : List ℕ) (packet : ℕ) : Type 0 where
+abbrev pub r_at : List ℕ → ℕ
+r_at bytes = number_of (take 8 (drop 32 (bits_of_bytes bytes)))
+
+-- what follows its header, as many bytes as are stated
+abbrev pub body_at : Header → List ℕ → List ℕ
+body_at h bytes = take (stated_size bytes) (drop (precinct_head_size h) bytes)
+
+-- Each band has mode 0. After so many packets that are read the header of one more is within the precinct, and says that its counts are raw.
+pub record HasRawCounts (h : Header) (precinct : ℕ) (bytes : List ℕ) (packet : ℕ) : Type 0 where
+  pub modes : (band : ℕ) → band < bands_of h → mode_at bytes band ≡ 0
+  pub content : Content
+  pub q : content.q precinct ≡ q_at bytes
+  pub r : content.r precinct ≡ r_at bytes
+  pub earlier : List PacketPlace
+  pub place : PacketPlace
+  pub later : List PacketPlace
+  pub order : packets_of h precinct ≡ earlier ++ (place ∷ later)
+  pub number : length earlier ≡ packet
+  pub before : List ℕ
+  pub rest : List ℕ
+  pub joined : body_at h bytes ≡ before ++ rest
+  pub spelled : SpellsEach (IsBuiltPacket h content) earlier before
+  pub within : head_size h ≤ length rest
+  pub raw : take 1 (bits_of_bytes rest) ≡ 1 ∷ []
+
+-- a packet of the precinct at the front of the bytes is of a form that is not read yet: the first, where a band has another mode than 0, or one with raw counts
+pub record IsUnbuilt (h : Header) (precinct : ℕ) (bytes : List ℕ) (packet : ℕ) : Type 0 where
   pub whole : IsWholePrecinct h bytes
-  pub first : packet ≡ 0
-  pub cause : HasMode h bytes ⊎ HasRawCounts h bytes
+  pub cause : ((packet ≡ 0) × HasMode h bytes) ⊎ HasRawCounts h precinct bytes packet
 
 -- after a header, whole slices and some precincts a precinct stands that is of such a form
 pub record IsUnbuiltAt (bytes : List ℕ) (slice precinct packet : ℕ) : Type 0 where
@@ -119,4 +140,4 @@ pub record IsUnbuiltAt (bytes : List ℕ) (slice precinct packet : ℕ) : Type 0
   pub later : List ℕ
   pub order : precincts_of h slice ≡ earlier ++ (precinct ∷ later)
   pub spelled : SpellsEach (IsBuiltPrecinct h content) earlier precincts
-  pub unbuilt : IsUnbuilt h rest packet
+  pub unbuilt : IsUnbuilt h precinct rest packet

@@ -16,12 +16,12 @@ use Rattle.xs_params.specs.declared.settings.Setting.{Setting}
 use Rattle.xs_params.specs.declared.settings.Field.{Field}
 use Rattle.xs_params.specs.declared.settings.Field.TheVariants as field_of
 
--- the most wavelet levels across, and down, that are taken now
+-- the most wavelet levels across, and down
 abbrev pub most_across : ℕ
-most_across = 1
+most_across = 5
 
 abbrev pub most_down : ℕ
-most_down = 0
+most_down = 2
 
 -- a number is not one of low to high
 abbrev pub is_outside : ℕ → ℕ → ℕ → Bool

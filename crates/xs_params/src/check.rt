@@ -16,10 +16,10 @@ use std::marker::Model;
 use xs_io::Memory;
 use xs_layout::{Format, Shape, Weight};
 
-/// The most wavelet levels across that are taken now.
-const MOST_ACROSS: u8 = 1;
-/// The most wavelet levels down that are taken now.
-const MOST_DOWN: u8 = 0;
+/// The most wavelet levels across.
+const MOST_ACROSS: u8 = 5;
+/// The most wavelet levels down.
+const MOST_DOWN: u8 = 2;
 
 /// Settings of which none is refused.
 #[derive(Debug, Drop)]

@@ -95,8 +95,7 @@ encoding_of_rows h rows share =
 unfoldable pub encoding_of : Settings → Picture → Result Stream Budget
 encoding_of settings picture = encoding_of_rows (header_of settings) (rows_of (header_of settings) picture) settings.share
 
--- what is encoded now: grey pictures of 8 bits, split once across and not down, with the dead-zone quantiser, the default weights,
--- and signs among the data
+-- what is encoded now: grey pictures of 8 bits, with the dead-zone quantiser, the default weights, and signs among the data
 pub record IsBuilt (s : Settings) : Type 0 where
   pub format : s.shape.format ≡ Mono
   pub depth : s.shape.depth ≡ 8
@@ -104,5 +103,3 @@ pub record IsBuilt (s : Settings) : Type 0 where
   pub quant : s.quant ≡ DeadZone
   pub signs : s.signs_apart ≡ false
   pub weights : s.weights ≡ None
-  pub across : s.nlx ≡ 1
-  pub down : s.nly ≡ 0

@@ -18,29 +18,6 @@ use Rattle.xs_rate.specs.Finest.{IsSmallRow}
 
 -- Rows
 
--- a header of a grey picture that is split once across and not down
-pub record IsGreyHeader (h : Header) : Type 0 where
-  pub format : h.shape.format ≡ Mono
-  pub colour : h.colour ≡ false
-  pub across : h.nlx ≡ 1
-  pub down : h.nly ≡ 0
-
--- a line of a grey picture, scaled
-abbrev pub grey_line : Header → Picture → ℕ → ℕ → ℤ
-grey_line h picture line k = scale_in h.shape.depth h.bw (sample_at picture 0 line k)
-
--- its rows: band 0 has the low part of each line, and band 1 the high part
-pub record AreGreyRows (h : Header) (picture : Picture) : Type 0 where
-  pub low_width : band_width_of h 0 ≡ low_count h.shape.width
-  pub high_width : band_width_of h 1 ≡ high_count h.shape.width
-  pub low : (line column : ℕ) → column < low_count h.shape.width → rows_of h picture 0 line column ≡ fold h.fq (low_of h.shape.width (grey_line h picture line) column)
-  pub high : (line column : ℕ) → column < high_count h.shape.width → rows_of h picture 1 line column ≡ fold h.fq (high_of h.shape.width (grey_line h picture line) column)
-  pub low_past : (line column : ℕ) → low_count h.shape.width ≤ column → rows_of h picture 0 line column ≡ pos 0
-  pub high_past : (line column : ℕ) → high_count h.shape.width ≤ column → rows_of h picture 1 line column ≡ pos 0
-
-abbrev pub GreyRows : Type 0
-GreyRows = (h : Header) (picture : Picture) → IsGreyHeader h → AreGreyRows h picture
-
 -- the coefficients of every picture are small
 abbrev pub SmallRows : Type 0
 SmallRows = (h : Header) (picture : Picture) (band line column : ℕ) → unsigned_abs (rows_of h picture band line column) ≤ 32767

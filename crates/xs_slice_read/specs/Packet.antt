@@ -105,17 +105,20 @@ pub record BeginWithParts (known : List (ℕ × ℕ)) (counts planes : ℕ) (byt
   pub enough : counts + planes ≤ length bytes
   pub parts : HavePartsFor lines (take counts bytes) (take planes (drop counts bytes))
 
--- a packet of lines of which this is known begins the bytes, or would but for its numbers
-pub record BeginWithPacket (long : Bool) (known : List (ℕ × ℕ)) (bytes : List ℕ) : Type 0 where
+-- the bytes are a packet of lines of which this is known, or would be but for its numbers
+pub record IsWholePacket (long : Bool) (known : List (ℕ × ℕ)) (bytes : List ℕ) : Type 0 where
   pub lines : List ReadLine
   pub known_lines : map known_line lines ≡ known
   pub head : List ℕ
   pub counts : List ℕ
   pub planes : List ℕ
-  pub rest : List ℕ
-  pub joined : bytes ≡ head ++ (counts ++ (planes ++ rest))
+  pub joined : bytes ≡ head ++ (counts ++ planes)
   pub headed : IsPacketHead long (length planes) (length counts) head
   pub parts : HavePartsFor lines counts planes
+
+-- such a packet begins the bytes
+abbrev pub BeginWithPacket : Bool → List (ℕ × ℕ) → List ℕ → Type 0
+BeginWithPacket long known bytes = (part : List ℕ) × (rest : List ℕ) × (bytes ≡ part ++ rest) × IsWholePacket long known part
 
 -- the header is there and says that the counts are raw
 pub record HasRawHead (long : Bool) (bytes : List ℕ) : Type 0 where
@@ -130,12 +133,13 @@ IsPartsRefusal known counts planes bytes (fault.Unbuilt packet) = ⊥
 IsPartsRefusal known counts planes bytes fault.Truncated = ⊥
 IsPartsRefusal known counts planes bytes fault.Memory = ⊤
 
-abbrev pub IsPacketRefusal : Bool → List (ℕ × ℕ) → List ℕ → PrecinctFault → Type 0
-IsPacketRefusal long known bytes (fault.Overrun packet part) = BeginWithPacket long known bytes → ⊥
-IsPacketRefusal long known bytes (fault.Count packet value) = BeginWithPacket long known bytes → ⊥
-IsPacketRefusal long known bytes (fault.Unbuilt packet) = (packet ≡ 0) × HasRawHead long bytes
-IsPacketRefusal long known bytes fault.Truncated = ⊥
-IsPacketRefusal long known bytes fault.Memory = ⊤
+-- why the packet of a number is refused
+abbrev pub IsPacketRefusal : Bool → ℕ → List (ℕ × ℕ) → List ℕ → PrecinctFault → Type 0
+IsPacketRefusal long number known bytes (fault.Overrun packet part) = (packet ≡ number) × (BeginWithPacket long known bytes → ⊥)
+IsPacketRefusal long number known bytes (fault.Count packet value) = (packet ≡ number) × (BeginWithPacket long known bytes → ⊥)
+IsPacketRefusal long number known bytes (fault.Unbuilt packet) = (packet ≡ number) × HasRawHead long bytes
+IsPacketRefusal long number known bytes fault.Truncated = ⊥
+IsPacketRefusal long number known bytes fault.Memory = ⊤
 
 -- no counts of which this is known begin the bits
 abbrev pub BeginWithNoLines : List (ℕ × ℕ) → List ℕ → Type 0

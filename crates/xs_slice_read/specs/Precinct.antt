@@ -1,17 +1,20 @@
--- A precinct of one packet as it is read: 'Slice, precinct and packet'.
-use Rattle.std.specs.Prelude.{◌≡◌, ◌≢◌, ℕ, ◌≤◌, ◌<◌, ⊤, List, ◌∷◌, ◌++◌, length, map, take}
+-- A precinct as it is read, packet by packet: 'Slice, precinct and packet'.
+use Rattle.std.specs.Prelude.{◌≡◌, ◌≢◌, ℕ, ◌≤◌, ◌<◌, ⊤, ⊥, ℤ, List, [], ◌∷◌, ◌++◌, length, map, take}
+use Rattle.std.specs.List.{AllByRecursion, Contains}
 use Rattle.xs_lists.specs.Bits.{bits_of_fields, HaveRoom}
-use Rattle.xs_lists.specs.Spelling.{upto, SpellsPadded}
-use Rattle.xs_layout.specs.Geometry.{groups_of}
+use Rattle.xs_lists.specs.Spelling.{upto, SpellsEach, SpellsPadded}
+use Rattle.xs_layout.specs.declared.Quant.{Quant}
+use Rattle.xs_layout.specs.Geometry.{groups_of, PacketPlace}
 use Rattle.xs_layout.specs.Weighting.{truncation_of}
 use Rattle.xs_params.specs.declared.header.Header.{Header}
 use Rattle.xs_faults.specs.declared.PrecinctFault.{PrecinctFault}
 use Rattle.xs_faults.specs.declared.PrecinctFault.TheVariants as fault
-use Rattle.xs_grammar.specs.Geometry.{bands_of, band_width_of}
+use Rattle.xs_grammar.specs.Geometry.{bands_of, band_width_of, packet_bands, packets_of}
+use Rattle.xs_geometry.specs.SliceLines.{BandLines, row_at}
 use Rattle.xs_grammar.specs.Precinct.{weight_of}
 use Rattle.xs_decoding.specs.Built.{mode_at, IsUnbuilt}
-use Rattle.xs_read_lines.specs.ReadLine.{Buffered, ReadLine}
-use Rattle.xs_slice_read.specs.Packet.{known_line, HoldLines, IsPacketOf, BeginWithPacket}
+use Rattle.xs_read_lines.specs.ReadLine.{AreValuesOf, ReadLine}
+use Rattle.xs_slice_read.specs.Packet.{known_line, IsPacketOf, IsWholePacket}
 
 -- the fields of the header of a precinct of so many bands whose modes are 0
 abbrev pub plain_fields : ℕ → ℕ → ℕ → ℕ → List (ℕ × ℕ)
@@ -21,32 +24,74 @@ plain_fields bands size q r = (24, size) ∷ (8, q) ∷ (8, r) ∷ map (λ _. (2
 abbrev pub band_groups : Header → List ℕ
 band_groups h = map (λ band. groups_of (band_width_of h band)) (upto (bands_of h))
 
--- what is known of the bands' lines by the header of the precinct
-abbrev pub known_lines : Header → ℕ → ℕ → List (ℕ × ℕ)
-known_lines h q r = map (λ band. (groups_of (band_width_of h band), truncation_of q r (weight_of h band))) (upto (bands_of h))
+-- what is known of a packet's lines by the header of the precinct
+abbrev pub known_lines : Header → ℕ → ℕ → PacketPlace → List (ℕ × ℕ)
+known_lines h q r place = map (λ band. (groups_of (band_width_of h band), truncation_of q r (weight_of h band))) (packet_bands h place)
 
--- the bytes are a precinct of one packet of lines
-pub record IsPrecinctOf (h : Header) (q r : ℕ) (lines : List ReadLine) (bytes : List ℕ) : Type 0 where
+-- a packet and its lines
+pub record ReadPacket : Type 0 where
+  pub place : PacketPlace
+  pub lines : List ReadLine
+
+-- the bytes are a packet of its lines, of which this is known
+pub record IsReadPacket (h : Header) (q r : ℕ) (packet : ReadPacket) (bytes : List ℕ) : Type 0 where
+  pub known : map known_line packet.lines ≡ known_lines h q r packet.place
+  pub spelled : IsPacketOf h.long_heads packet.lines bytes
+
+-- the places of packets
+abbrev pub places_of : List ReadPacket → List PacketPlace
+places_of packets = map (λ (packet : ReadPacket). packet.place) packets
+
+-- the bytes are a precinct of these packets
+pub record IsPrecinctOf (h : Header) (precinct q r : ℕ) (packets : List ReadPacket) (bytes : List ℕ) : Type 0 where
   pub head : List ℕ
-  pub packet : List ℕ
+  pub body : List ℕ
   pub filler : List ℕ
-  pub joined : bytes ≡ head ++ (packet ++ filler)
-  pub room : HaveRoom (plain_fields (bands_of h) (length (packet ++ filler)) q r)
-  pub headed : SpellsPadded head (bits_of_fields (plain_fields (bands_of h) (length (packet ++ filler)) q r))
-  pub known : map known_line lines ≡ known_lines h q r
-  pub spelled : IsPacketOf h.long_heads lines packet
+  pub joined : bytes ≡ head ++ (body ++ filler)
+  pub room : HaveRoom (plain_fields (bands_of h) (length (body ++ filler)) q r)
+  pub headed : SpellsPadded head (bits_of_fields (plain_fields (bands_of h) (length (body ++ filler)) q r))
+  pub order : places_of packets ≡ packets_of h precinct
+  pub spelled : SpellsEach (IsReadPacket h q r) packets body
 
--- the first n bytes are a precinct whose lines the buffers hold
-pub record IsPrecinctRead (h : Header) (bands : List Buffered) (bytes : List ℕ) (n : ℕ) : Type 0 where
+-- a row holds a line: it is a front of the values that stand for the line's numbers
+pub record IsRowOf (kind : Quant) (row : List ℤ) (line : ReadLine) : Type 0 where
+  pub values : List ℤ
+  pub valued : AreValuesOf kind line values
+  pub front : row ≡ take (length row) values
+
+-- the rows of some bands hold lines, one by one
+abbrev pub HoldRows : Quant → List BandLines → ℕ → List ℕ → List ReadLine → Type 0
+HoldRows kind rows number [] [] = ⊤
+HoldRows kind rows number (band ∷ bands) (line ∷ lines) = IsRowOf kind (row_at rows band number) line × HoldRows kind rows number bands lines
+HoldRows kind rows number [] (line ∷ lines) = ⊥
+HoldRows kind rows number (band ∷ bands) [] = ⊥
+
+-- the rows of a packet's bands hold its lines
+abbrev pub HoldsPacket : Header → List BandLines → ReadPacket → Type 0
+HoldsPacket h rows packet = HoldRows h.quant rows packet.place.line (packet_bands h packet.place) packet.lines
+
+-- a band's line is one of a packet
+abbrev pub IsLineAmong : Header → List PacketPlace → ℕ → ℕ → Type 0
+IsLineAmong h places band line = (place : PacketPlace) × Contains places place × Contains (packet_bands h place) band × (place.line ≡ line)
+
+-- the first n bytes are a precinct whose lines the rows hold; all other rows are as they were
+pub record IsPrecinctRead (h : Header) (precinct : ℕ) (old new : List BandLines) (bytes : List ℕ) (n : ℕ) : Type 0 where
   pub q : ℕ
   pub r : ℕ
-  pub lines : List ReadLine
-  pub held : HoldLines h.quant bands lines
+  pub packets : List ReadPacket
+  pub held : AllByRecursion (HoldsPacket h new) packets
   pub enough : n ≤ length bytes
-  pub precinct : IsPrecinctOf h q r lines (take n bytes)
+  pub precinct : IsPrecinctOf h precinct q r packets (take n bytes)
+  pub elsewhere : (band line : ℕ) → (IsLineAmong h (packets_of h precinct) band line → ⊥) → row_at new band line ≡ row_at old band line
 
--- a precinct of one packet begins the bytes, or would but for its numbers
-pub record BeginWithPrecinct (h : Header) (bytes : List ℕ) : Type 0 where
+-- A packet begins the bytes, or would but for its numbers. So do packets: the numbers of none of them are looked at.
+abbrev pub BeginWithPackets : Header → ℕ → ℕ → List PacketPlace → List ℕ → Type 0
+BeginWithPackets h q r [] bytes = ⊤
+BeginWithPackets h q r (place ∷ places) bytes =
+    (part : List ℕ) × (rest : List ℕ) × (bytes ≡ part ++ rest) × IsWholePacket h.long_heads (known_lines h q r place) part × BeginWithPackets h q r places rest
+
+-- the packets of a precinct begin what follows its header, or would but for their numbers
+pub record BeginWithPrecinct (h : Header) (precinct : ℕ) (bytes : List ℕ) : Type 0 where
   pub q : ℕ
   pub r : ℕ
   pub head : List ℕ
@@ -55,15 +100,15 @@ pub record BeginWithPrecinct (h : Header) (bytes : List ℕ) : Type 0 where
   pub joined : bytes ≡ head ++ (body ++ rest)
   pub room : HaveRoom (plain_fields (bands_of h) (length body) q r)
   pub headed : SpellsPadded head (bits_of_fields (plain_fields (bands_of h) (length body) q r))
-  pub packet : BeginWithPacket h.long_heads (known_lines h q r) body
+  pub packets : BeginWithPackets h q r (packets_of h precinct) body
 
 -- why a precinct is refused; want of memory is free
-abbrev pub IsPrecinctRefusal : Header → List ℕ → PrecinctFault → Type 0
-IsPrecinctRefusal h bytes (fault.Overrun packet part) = BeginWithPrecinct h bytes → ⊥
-IsPrecinctRefusal h bytes (fault.Count packet value) = BeginWithPrecinct h bytes → ⊥
-IsPrecinctRefusal h bytes fault.Truncated = BeginWithPrecinct h bytes → ⊥
-IsPrecinctRefusal h bytes (fault.Unbuilt packet) = IsUnbuilt h bytes packet
-IsPrecinctRefusal h bytes fault.Memory = ⊤
+abbrev pub IsPrecinctRefusal : Header → ℕ → List ℕ → PrecinctFault → Type 0
+IsPrecinctRefusal h precinct bytes (fault.Overrun packet part) = BeginWithPrecinct h precinct bytes → ⊥
+IsPrecinctRefusal h precinct bytes (fault.Count packet value) = BeginWithPrecinct h precinct bytes → ⊥
+IsPrecinctRefusal h precinct bytes fault.Truncated = BeginWithPrecinct h precinct bytes → ⊥
+IsPrecinctRefusal h precinct bytes (fault.Unbuilt packet) = IsUnbuilt h precinct bytes packet
+IsPrecinctRefusal h precinct bytes fault.Memory = ⊤
 
 -- a band's mode in the header of a precinct is not 0
 abbrev pub HasModeAmong : ℕ → List ℕ → Type 0

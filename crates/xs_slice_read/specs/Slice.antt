@@ -54,7 +54,7 @@ pub record IsUnbuiltIn (h : Header) (slice : ℕ) (bytes : List ℕ) (precinct p
   pub later : List ℕ
   pub order : precincts_of h slice ≡ earlier ++ (precinct ∷ later)
   pub spelled : SpellsEach (IsBuiltPrecinct h content) earlier precincts
-  pub unbuilt : IsUnbuilt h rest packet
+  pub unbuilt : IsUnbuilt h precinct rest packet
 
 -- why a slice is refused; want of memory is free, and never inside another fault
 abbrev pub IsSliceRefusal : Header → ℕ → List ℕ → SliceFault → Type 0
