@@ -1,20 +1,18 @@
 -- Laws of the encoding.
-use Rattle.std.specs.Prelude.{◌≡◌, ℕ, ◌^◌, ◌<◌, ◌≤◌, IsTrue, false, ℤ, pos, unsigned_abs, List, length, All}
+use Rattle.std.specs.Prelude.{◌≡◌, ℕ, ◌^◌, ◌<◌, ◌≤◌, IsTrue, unsigned_abs, List, length, All}
+use Rattle.std.specs.List.{sum_by, Contains}
+use Rattle.xs_layout.specs.Geometry.{PacketPlace}
 use Rattle.xs_layout.specs.declared.Format.TheVariants.{Mono}
 use Rattle.xs_params.specs.declared.header.Header.{Header}
-use Rattle.xs_params.specs.Picture.{Picture, sample_at}
-use Rattle.xs_signal.specs.Fold.{fold}
-use Rattle.xs_signal.specs.Samples.{scale_in}
-use Rattle.xs_signal.specs.Wavelet.{low_count, high_count, low_of, high_of}
-use Rattle.xs_grammar.specs.Geometry.{band_width_of}
+use Rattle.xs_params.specs.Picture.{Picture}
 use Rattle.xs_params.specs.declared.settings.Settings.{Settings}
 use Rattle.xs_params.specs.Check.{AreInRange}
 use Rattle.xs_params.specs.Headers.{header_of}
 use Rattle.xs_params.specs.Stream.{stream_bytes}
-use Rattle.xs_grammar.specs.Geometry.{slice_count}
+use Rattle.xs_grammar.specs.Geometry.{packet_bands, packets_of, slice_count}
 use Rattle.xs_rate.specs.Coefficients.{Rows, rows_of}
 use Rattle.xs_rate.specs.Encoding.{IsBuilt, stream_of, coarsest, fields_fit_at}
-use Rattle.xs_rate.specs.Finest.{IsSmallRow}
+use Rattle.xs_rate.specs.Finest.{IsSmallRow, band_groups}
 
 -- Rows
 
@@ -35,3 +33,13 @@ CoarsestFits = (s : Settings) (rows : Rows) (slice : ℕ) → IsBuilt s → AreI
 abbrev pub LengthFits : Type 0
 LengthFits = (s : Settings) (slices : List (List ℕ)) → IsBuilt s → AreInRange s → length slices ≡ slice_count (header_of s) → All (λ slice. length slice ≤ s.share) slices
     → length (stream_bytes (stream_of (header_of s) slices)) < 2 ^ 32
+
+-- Packets
+
+-- a packet has at most 2054 code groups
+abbrev pub IsNarrow : Header → Type 0
+IsNarrow h = (precinct : ℕ) (place : PacketPlace) → Contains (packets_of h precinct) place → sum_by (band_groups h) (packet_bands h place) ≤ 2054
+
+-- so it is with grey pictures
+abbrev pub GreyIsNarrow : Type 0
+GreyIsNarrow = (h : Header) → h.shape.format ≡ Mono → h.shape.width ≤ 8192 → h.nlx ≤ 5 → h.nly ≤ h.nlx → IsNarrow h
