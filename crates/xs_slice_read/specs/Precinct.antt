@@ -1,5 +1,5 @@
 -- A precinct as it is read, packet by packet: 'Slice, precinct and packet'.
-use Rattle.std.specs.Prelude.{◌≡◌, ◌≢◌, ℕ, ◌≤◌, ◌<◌, ⊤, ⊥, ℤ, List, [], ◌∷◌, ◌++◌, length, map, take}
+use Rattle.std.specs.Prelude.{◌≡◌, ◌≢◌, ℕ, ◌≤◌, ◌<◌, ⊤, ℤ, List, [], ◌∷◌, ◌++◌, length, map, take}
 use Rattle.std.specs.List.{AllByRecursion, Contains}
 use Rattle.xs_lists.specs.Bits.{bits_of_fields, HaveRoom}
 use Rattle.xs_lists.specs.Spelling.{upto, SpellsEach, SpellsPadded}
