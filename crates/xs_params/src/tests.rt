@@ -76,7 +76,9 @@ fn each_number_is_refused_past_its_limits(rt: HostRuntime) {
         (Field::Depth, 10),
         (Field::Depth, 12),
         (Field::Nlx, 1),
+        (Field::Nlx, 5),
         (Field::Nly, 0),
+        (Field::Nly, 1),
         (Field::Hsl, 1),
         (Field::Hsl, 65535),
         (Field::Colour, 0),
@@ -108,8 +110,8 @@ fn each_number_is_refused_past_its_limits(rt: HostRuntime) {
         (Field::Depth, 11),
         (Field::Depth, 13),
         (Field::Nlx, 0),
-        (Field::Nlx, 2),
-        (Field::Nly, 1),
+        (Field::Nlx, 6),
+        (Field::Nly, 2),
         (Field::Hsl, 0),
         (Field::Colour, 1),
         (Field::Chunk, 63),
@@ -170,7 +172,7 @@ fn the_first_of_several_is_refused(rt: HostRuntime) {
     );
     let mut deep = accepted(alloc);
     deep.shape.depth = 9;
-    deep.nlx = 2;
+    deep.nlx = 6;
     assert!(rt;
         refusal(deep)
             == Some(Setting {
@@ -212,6 +214,74 @@ fn the_first_of_several_is_refused(rt: HostRuntime) {
     whole.shape.format = Format::C444;
     whole.colour = true;
     assert!(rt; refusal(whole).is_none());
+}
+
+fn levels(alloc: Global, format: Format, width: u32, nlx: u8, nly: u8) -> Option<Setting> {
+    let mut settings = accepted(alloc);
+    settings.shape.format = format;
+    settings.shape.width = width;
+    settings.nlx = nlx;
+    settings.nly = nly;
+    refusal(settings)
+}
+
+#[test]
+fn levels_are_as_many_as_the_narrowest_component_takes(rt: HostRuntime) {
+    let across = |value| Some(Setting {
+        field: Field::Nlx,
+        value,
+    });
+    let down = |value| Some(Setting {
+        field: Field::Nly,
+        value,
+    });
+    let rows = [
+        (Format::Mono, 32, 5, 2, None),
+        (Format::Mono, 8192, 6, 2, across(6)),
+        (Format::C422, 62, 4, 0, None),
+        (Format::C422, 62, 5, 0, across(5)),
+        (Format::C422, 63, 5, 2, None),
+        (Format::C444, 32, 5, 1, None),
+        (Format::Mono, 32, 1, 1, None),
+        (Format::Mono, 32, 1, 2, down(2)),
+        (Format::Mono, 32, 2, 2, None),
+        (Format::Mono, 32, 2, 3, down(3)),
+        (Format::Mono, 32, 5, 3, down(3)),
+        (Format::Mono, 32, 6, 3, across(6)),
+    ];
+    for (format, width, nlx, nly, answer) in rows {
+        assert!(rt; levels(rt.alloc(), format, width, nlx, nly) == answer);
+    }
+}
+
+fn slices(alloc: Global, height: u32, nly: u8, hsl: u16) -> Option<Setting> {
+    let mut settings = accepted(alloc);
+    settings.shape.height = height;
+    settings.nly = nly;
+    settings.nlx = 2;
+    settings.hsl = hsl;
+    refusal(settings)
+}
+
+#[test]
+fn slices_are_counted_in_precincts(rt: HostRuntime) {
+    let high = |value| Some(Setting {
+        field: Field::Hsl,
+        value,
+    });
+    let rows = [
+        (8192, 0, 4, high(4)),
+        (8192, 0, 5, None),
+        (8192, 1, 2, high(2)),
+        (8192, 1, 3, None),
+        (8192, 2, 1, high(1)),
+        (8188, 2, 1, None),
+        (8189, 2, 1, high(1)),
+        (8192, 2, 2, None),
+    ];
+    for (height, nly, hsl, answer) in rows {
+        assert!(rt; slices(rt.alloc(), height, nly, hsl) == answer);
+    }
 }
 
 fn weighed(alloc: Global, weights: &[Weight]) -> Result<Option<Setting>, Memory> {
@@ -324,6 +394,25 @@ fn a_header_says_what_the_settings_say(rt: HostRuntime) -> Result<(), Fail> {
             ]
             .as_slice()
     );
+    Ok(())
+}
+
+#[test]
+fn a_header_has_a_default_weight_for_each_band(rt: HostRuntime) -> Result<(), Fail> {
+    let mut settings = accepted(rt.alloc());
+    settings.nlx = 2;
+    settings.nly = 2;
+    let Ok(checked) = settings.check() else {
+        return Err(Fail::from(Memory));
+    };
+    let header = checked.header(rt.alloc())?;
+    let gains = [2, 1, 1, 1, 0, 0, 0];
+    let weights = header.weights.as_slice();
+    assert!(rt; weights.len() == 7);
+    for (band, weight) in weights.iter().enumerate() {
+        assert!(rt; gains.get(band) == Some(&weight.gain));
+        assert!(rt; usize::from(weight.priority) == band);
+    }
     Ok(())
 }
 

@@ -134,6 +134,28 @@ fn answers_settings(rt: HostRuntime) -> Result<(), Fail> {
             setting(Field::Nlx, 300),
         ),
         (
+            "--width 32 --height 4 --nlx 6 --nly 0 --share 400",
+            setting(Field::Nlx, 6),
+        ),
+        ("--width 32 --height 4 --nlx 5 --nly 2 --share 400", None),
+        (
+            "--width 32 --height 4 --nlx 5 --nly 3 --share 400",
+            setting(Field::Nly, 3),
+        ),
+        ("--width 32 --height 4 --nlx 1 --nly 1 --share 400", None),
+        (
+            "--width 32 --height 4 --nlx 1 --nly 2 --share 400",
+            setting(Field::Nly, 2),
+        ),
+        (
+            "--width 32 --height 8192 --nlx 2 --nly 2 --share 400 --slice 1",
+            setting(Field::Hsl, 1),
+        ),
+        (
+            "--width 32 --height 8192 --nlx 2 --nly 2 --share 400 --slice 2",
+            None,
+        ),
+        (
             "--width 32 --height 4 --nlx 1 --nly 256 --share 400",
             setting(Field::Nly, 256),
         ),
@@ -176,7 +198,7 @@ fn answers_settings(rt: HostRuntime) -> Result<(), Fail> {
 #[test]
 fn reads_settings(rt: HostRuntime) -> Result<(), Fail> {
     let text =
-        "encode --share 500 --slice 3 --quant deadzone --nly 0 --nlx 1 --format mono --height 9 --width 48 --form xs";
+        "encode --share 500 --slice 3 --quant deadzone --nly 2 --nlx 4 --format mono --height 9 --width 48 --form xs";
     let list = words_of(rt.alloc(), text)?;
     let command = command_of(rt.alloc(), list.as_slice())
         .ok()
@@ -188,8 +210,8 @@ fn reads_settings(rt: HostRuntime) -> Result<(), Fail> {
     assert_eq!(rt; settings.shape.width, 48);
     assert_eq!(rt; settings.shape.height, 9);
     assert_eq!(rt; settings.shape.depth, 8);
-    assert_eq!(rt; settings.nlx, 1);
-    assert_eq!(rt; settings.nly, 0);
+    assert_eq!(rt; settings.nlx, 4);
+    assert_eq!(rt; settings.nly, 2);
     assert_eq!(rt; settings.hsl, 3);
     assert_eq!(rt; settings.share, 500);
     assert_eq!(rt; settings.chunk, 1400);
