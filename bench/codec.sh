@@ -1,6 +1,6 @@
 #!/bin/sh
-# Times the encoder and the decoder on pictures of growing size, a pattern and noise: the cost of a sample must not grow with
-# the picture. Each picture must come back.
+# Times the encoder and the decoder on pictures of growing size, a pattern and noise, with one wavelet level and with five across
+# and two down: the cost of a sample must not grow with the picture. Each picture must come back.
 # It uses the built program (crates/xsx/out/xsx, after `rt run` there or a whole `rt ci`), and GNU time.
 set -eu
 
@@ -29,18 +29,20 @@ timed() {
     "$timer" -f '%U %S %M' -o "$folder/cost" "$program" "$@" <"$input" >"$output"
     read -r user system kilobytes <"$folder/cost"
     awk -v n="$samples" -v u="$user" -v s="$system" -v k="$kilobytes" -v b="$(wc -c <"$output")" -v what="$what" \
-        'BEGIN { printf "%-26s %10d bytes  %7.2f s  %6.1f ns a sample  %5.1f bytes of memory a sample\n", what, b, u + s, (u + s) * 1e9 / n, k * 1024 / n }'
+        'BEGIN { printf "%-30s %10d bytes  %7.2f s  %6.1f ns a sample  %5.1f bytes of memory a sample\n", what, b, u + s, (u + s) * 1e9 / n, k * 1024 / n }'
 }
 
-for size in 512x512 2048x2048 8192x2048; do
-    width=${size%x*}
-    height=${size#*x}
-    samples=$((width * height))
-    for kind in pattern noise; do
-        make_picture "$kind" "$samples" >"$folder/picture"
-        timed "encode $kind $size" "$folder/picture" "$folder/stream" encode --form xs --width "$width" \
-            --height "$height" --format mono --nlx 1 --nly 0 --quant deadzone --share 89598
-        timed "decode $kind $size" "$folder/stream" "$folder/back" decode --form xs
-        cmp "$folder/picture" "$folder/back"
+for levels in 1x0 5x2; do
+    for size in 512x512 2048x2048 8192x2048; do
+        width=${size%x*}
+        height=${size#*x}
+        samples=$((width * height))
+        for kind in pattern noise; do
+            make_picture "$kind" "$samples" >"$folder/picture"
+            timed "encode $levels $kind $size" "$folder/picture" "$folder/stream" encode --form xs --width "$width" \
+                --height "$height" --format mono --nlx "${levels%x*}" --nly "${levels#*x}" --quant deadzone --share 89598
+            timed "decode $levels $kind $size" "$folder/stream" "$folder/back" decode --form xs
+            cmp "$folder/picture" "$folder/back"
+        done
     done
 done

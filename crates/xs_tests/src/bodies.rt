@@ -20,7 +20,7 @@ enum Content {
     BlackBelow,
 }
 
-/// A picture's size, its content, and the precincts and bytes of a slice.
+/// A picture's size, its content, the precincts and bytes of a slice, and the wavelet levels across and down.
 #[derive(Clone, Copy, Debug, PartialEq, Eq)]
 struct Case {
     width: u32,
@@ -28,7 +28,26 @@ struct Case {
     content: Content,
     hsl: u16,
     share: u32,
+    depth: (u8, u8),
 }
+
+/// Every number of levels across, with every number down.
+pub const DEPTHS: [(u8, u8); 14] = [
+    (1, 0),
+    (1, 1),
+    (2, 0),
+    (2, 1),
+    (2, 2),
+    (3, 0),
+    (3, 1),
+    (3, 2),
+    (4, 0),
+    (4, 1),
+    (4, 2),
+    (5, 0),
+    (5, 1),
+    (5, 2),
+];
 
 fn picture(width: u32, height: u32, content: Content, hsl: u16, share: u32) -> Case {
     Case {
@@ -37,6 +56,7 @@ fn picture(width: u32, height: u32, content: Content, hsl: u16, share: u32) -> C
         content,
         hsl,
         share,
+        depth: (1, 0),
     }
 }
 
@@ -68,8 +88,8 @@ fn settings_of(alloc: Global, case: &Case) -> Settings
             format: Format::Mono,
             depth: 8,
         },
-        nlx: 1,
-        nly: 0,
+        nlx: case.depth.0,
+        nly: case.depth.1,
         hsl: case.hsl,
         colour: false,
         quant: Quant::DeadZone,
@@ -140,6 +160,26 @@ fn agree(alloc: Global, case: &Case) -> Result<bool, Fail> {
 fn the_encoder_agrees_with_the_plain_program(rt: HostRuntime) -> Result<(), Fail> {
     for case in cases() {
         assert!(rt; agree(rt.alloc(), &case)?);
+    }
+    Ok(())
+}
+
+// Sizes with a slice of one precinct, odd ones, and heights that cut the last precinct.
+#[test]
+fn the_encoder_agrees_with_the_plain_program_at_every_depth(rt: HostRuntime) -> Result<(), Fail> {
+    let pictures = [
+        picture(32, 4, Content::Noise, 4, 4000),
+        picture(33, 5, Content::Extremes, 1, 4000),
+        picture(35, 7, Content::Noise, 2, 4000),
+        picture(37, 17, Content::Ramp, 3, 4000),
+        picture(65, 33, Content::Noise, 1, 4000),
+        // over their share: the first slice, or none where there are many levels
+        picture(32, 17, Content::BlackBelow, 4, 273),
+    ];
+    for depth in DEPTHS {
+        for case in pictures {
+            assert!(rt; agree(rt.alloc(), &Case { depth, ..case })?);
+        }
     }
     Ok(())
 }

@@ -16,7 +16,7 @@ pub struct Outcome {
     pub notes: MemSink,
 }
 
-fn push_words(alloc: Global, words: &mut Vec<String>, text: &str) -> Result<(), Memory> {
+pub fn push_words(alloc: Global, words: &mut Vec<String>, text: &str) -> Result<(), Memory> {
     for word in text.split(' ') {
         if !word.is_empty() {
             let word = String::from_str(alloc, word).map_err(|_| Memory)?;
@@ -307,6 +307,60 @@ fn words_that_are_no_command_are_named(rt: HostRuntime) -> Result<(), Fail> {
         assert_eq!(rt; left.status, 1, "{first} {rest}");
         assert_eq!(rt; left.notes.held(), note.as_bytes(), "{first} {rest}");
         assert_eq!(rt; left.output.held(), [].as_slice(), "{first} {rest}");
+    }
+    Ok(())
+}
+
+// Grey pictures have no data: a packet is its header of five bytes, and a bit for each code group.
+#[test]
+fn commands_of_every_depth_are_answered(rt: HostRuntime) -> Result<(), Fail> {
+    let alloc = rt.alloc();
+    // levels; size and share; samples; status, note, length of the output
+    let rows = [
+        ("--nlx 2 --nly 2", "--width 32 --height 17 --share 274", 544, 0, "", 365),
+        (
+            "--nlx 2 --nly 2",
+            "--width 32 --height 17 --share 273",
+            544,
+            4,
+            "budget picture 0 slice 0 size 274 share 273\n",
+            0,
+        ),
+        ("--nlx 5 --nly 2", "--width 32 --height 4 --share 74", 128, 0, "", 140),
+        (
+            "--nlx 5 --nly 2",
+            "--width 32 --height 4 --share 73",
+            128,
+            4,
+            "budget picture 0 slice 0 size 74 share 73\n",
+            0,
+        ),
+        ("--nlx 5 --nly 0", "--width 32 --height 4 --share 64", 128, 0, "", 120),
+        ("--nlx 1 --nly 1", "--width 32 --height 4 --share 400", 128, 0, "", 120),
+        ("--nlx 0 --nly 0", "--width 32 --height 4 --share 400", 128, 2, "setting nlx 0\n", 0),
+        ("--nlx 6 --nly 0", "--width 32 --height 4 --share 400", 128, 2, "setting nlx 6\n", 0),
+        ("--nlx 1 --nly 2", "--width 32 --height 4 --share 400", 128, 2, "setting nly 2\n", 0),
+        ("--nlx 5 --nly 3", "--width 32 --height 4 --share 400", 128, 2, "setting nly 3\n", 0),
+        (
+            "--nlx 2 --nly 2",
+            "--width 32 --height 8192 --share 400 --slice 1",
+            128,
+            2,
+            "setting slice 1\n",
+            0,
+        ),
+    ];
+    for (levels, text, grey, status, note, length) in rows {
+        let mut words = words_of(
+            alloc,
+            "encode --form xs --format mono --quant deadzone",
+            levels,
+        )?;
+        push_words(alloc, &mut words, text)?;
+        let left = run_on(&rt, alloc, words.as_slice(), samples_of(alloc, grey, 0)?);
+        assert_eq!(rt; left.status, status, "{levels} {text}");
+        assert_eq!(rt; left.notes.held(), note.as_bytes(), "{levels} {text}");
+        assert_eq!(rt; left.output.held().len(), length, "{levels} {text}");
     }
     Ok(())
 }

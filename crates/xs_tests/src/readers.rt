@@ -1,5 +1,6 @@
 // Codestreams read back: what is spelled otherwise and means the same, what is cut, and what is damaged.
-use crate::commands::{Outcome, run_on, words_of};
+use crate::bodies::DEPTHS;
+use crate::commands::{Outcome, push_words, run_on, words_of};
 use std::alloc::Global;
 use std::test::Fail;
 use std::thread::Threads;
@@ -304,7 +305,7 @@ fn samples(alloc: Global, width: u32, height: u32, content: u32) -> Result<Octet
     Ok(picture)
 }
 
-// One level keeps 12 bits of the 20 inside, so every sample of 8 bits comes back.
+// What is rounded away is 8 bits of the 12 that a sample is raised by, so every sample of 8 bits comes back.
 #[test]
 fn pictures_come_back(rt: HostRuntime) -> Result<(), Fail> {
     let alloc = rt.alloc();
@@ -329,6 +330,126 @@ fn pictures_come_back(rt: HostRuntime) -> Result<(), Fail> {
             assert_eq!(rt; left.status, 0);
             assert!(rt; left.output.held() == picture.as_slice());
         }
+    }
+    Ok(())
+}
+
+/// Whether a picture of these words and this size comes back.
+fn comes_back<T: Threads + Sync>(
+    threads: &T,
+    alloc: Global,
+    words: &[String],
+    picture: &Octets,
+) -> Result<bool, Fail> {
+    let given = Octets::from_slice(alloc, picture.as_slice())?;
+    let encoded = run_on(threads, alloc, words, given);
+    let stream = Octets::from_slice(alloc, encoded.output.held())?;
+    let left = decoded(threads, alloc, stream)?;
+    Ok(encoded.status == 0 && left.status == 0 && left.output.held() == picture.as_slice())
+}
+
+#[test]
+fn pictures_of_every_depth_come_back(rt: HostRuntime) -> Result<(), Fail> {
+    let alloc = rt.alloc();
+    let sizes = [
+        ("--width 32 --height 4 --slice 4", 32, 4),
+        ("--width 33 --height 5 --slice 1", 33, 5),
+        ("--width 37 --height 9 --slice 2", 37, 9),
+        ("--width 65 --height 33 --slice 3", 65, 33),
+    ];
+    let first = "encode --form xs --format mono --quant deadzone --share 8000";
+    for (across, down) in DEPTHS {
+        for (size, width, height) in sizes {
+            let picture = samples(alloc, width, height, 2)?;
+            let mut words = words_of(alloc, first, size)?;
+            let levels = format!(in alloc; "--nlx {across} --nly {down}")?;
+            push_words(alloc, &mut words, levels.as_str())?;
+            assert!(rt; comes_back(&rt, alloc, words.as_slice(), &picture)?);
+        }
+    }
+    Ok(())
+}
+
+// A grey picture of 32 by 17 samples at two levels across and two down, by hand: its header; the precinct of ten packets, and
+// the last one of three. Each line has two code groups, or four, whose counts are 0.
+const DEEP_HEADER: [u8; 58] = [
+    0xff, 0x10, //
+    0xff, 0x50, 0, 2, //
+    0xff, 0x12, 0, 0x1a, 0, 0, 0x01, 0x6d, 0, 0, 0, 0, 0, 0x20, 0, 0x11, 0, 0, 0, 4, 1, 4, 8, 0x14,
+    0x84, 0, 0x22, 0, //
+    0xff, 0x13, 0, 4, 8, 0x11, //
+    0xff, 0x14, 0, 0x10, 2, 0, 1, 1, 1, 2, 1, 3, 0, 4, 0, 5, 0, 6,
+];
+
+const DEEP_PACKET: [u8; 6] = [0, 0, 0, 8, 0, 0];
+
+fn add_deep_precinct(stream: &mut Octets, packets: u8) -> Result<(), Memory> {
+    stream.extend(&[0, 0, packets % 16 * 6, 0, 0, 0, 0])?;
+    for _ in 0..packets {
+        stream.extend(&DEEP_PACKET)?;
+    }
+    Ok(())
+}
+
+fn deep_stream(alloc: Global) -> Result<Octets, Memory> {
+    let mut stream = Octets::from_slice(alloc, &DEEP_HEADER)?;
+    stream.extend(&[0xff, 0x20, 0, 4, 0, 0])?;
+    for _ in 0..4 {
+        add_deep_precinct(&mut stream, 10)?;
+    }
+    stream.extend(&[0xff, 0x20, 0, 4, 0, 1])?;
+    add_deep_precinct(&mut stream, 3)?;
+    stream.extend(&EOC)?;
+    Ok(stream)
+}
+
+#[test]
+fn a_deep_picture_by_hand(rt: HostRuntime) -> Result<(), Fail> {
+    let alloc = rt.alloc();
+    let stream = deep_stream(alloc)?;
+    let grey = vec![in alloc; 128; 544]?;
+    let words = words_of(
+        alloc,
+        "encode --form xs --format mono --quant deadzone --nlx 2 --nly 2",
+        "--width 32 --height 17 --share 274",
+    )?;
+    let given = Octets::from_slice(alloc, grey.as_slice())?;
+    let encoded = run_on(&rt, alloc, words.as_slice(), given);
+    assert_eq!(rt; encoded.status, 0);
+    assert!(rt; encoded.output.held() == stream.as_slice());
+    let left = decoded(&rt, alloc, stream)?;
+    assert_eq!(rt; left.status, 0);
+    assert!(rt; left.output.held() == grey.as_slice());
+    Ok(())
+}
+
+// Precinct 1 of the deep picture begins at byte 131, and precinct 4, which is in slice 1 and has three packets, at 338: a header
+// of seven bytes, and packets of six.
+#[test]
+fn damage_in_a_later_packet_is_named(rt: HostRuntime) -> Result<(), Fail> {
+    let alloc = rt.alloc();
+    let whole = deep_stream(alloc)?;
+    // a place, a byte for it, and the end of the line that is said
+    let rows = [
+        // raw counts in packets 0, 1 and 9 of precinct 1, and in the last of precinct 4; a band's mode
+        (138, 0x80, "0 precinct 1 packet 0 unbuilt"),
+        (144, 0x80, "0 precinct 1 packet 1 unbuilt"),
+        (192, 0x80, "0 precinct 1 packet 9 unbuilt"),
+        (357, 0x80, "1 precinct 4 packet 2 unbuilt"),
+        (136, 0x10, "0 precinct 1 packet 0 unbuilt"),
+        // counts of no bytes; more counts than there are; data where none is left
+        (147, 0, "0 precinct 1 packet 1 overrun counts"),
+        (195, 0x10, "0 precinct 1 packet 9 overrun counts"),
+        (194, 0x08, "0 precinct 1 packet 9 overrun counts"),
+        (193, 1, "0 precinct 1 packet 9 overrun data"),
+    ];
+    for (place, byte, line) in rows {
+        let damaged = with_byte(alloc, whole.as_slice(), place, byte)?;
+        let left = decoded(&rt, alloc, damaged)?;
+        let note = format!(in alloc; "damaged picture 0 slice {line}\n")?;
+        assert_eq!(rt; left.status, 6);
+        assert_eq!(rt; left.notes.held(), note.as_bytes());
+        assert!(rt; left.output.held().is_empty());
     }
     Ok(())
 }
