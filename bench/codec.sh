@@ -32,16 +32,21 @@ timed() {
         'BEGIN { printf "%-30s %10d bytes  %7.2f s  %6.1f ns a sample  %5.1f bytes of memory a sample\n", what, b, u + s, (u + s) * 1e9 / n, k * 1024 / n }'
 }
 
-for levels in 1x0 5x2; do
+# A slice has four lines of the picture.
+for layout in '1 0 4' '5 2 1'; do
+    read -r across down slice <<LAYOUT
+$layout
+LAYOUT
     for size in 512x512 2048x2048 8192x2048; do
         width=${size%x*}
         height=${size#*x}
         samples=$((width * height))
         for kind in pattern noise; do
             make_picture "$kind" "$samples" >"$folder/picture"
-            timed "encode $levels $kind $size" "$folder/picture" "$folder/stream" encode --form xs --width "$width" \
-                --height "$height" --format mono --nlx "${levels%x*}" --nly "${levels#*x}" --quant deadzone --share 89598
-            timed "decode $levels $kind $size" "$folder/stream" "$folder/back" decode --form xs
+            timed "encode ${across}x$down $kind $size" "$folder/picture" "$folder/stream" encode --form xs --width "$width" \
+                --height "$height" --format mono --nlx "$across" --nly "$down" --slice "$slice" --quant deadzone \
+                --share 89598
+            timed "decode ${across}x$down $kind $size" "$folder/stream" "$folder/back" decode --form xs
             cmp "$folder/picture" "$folder/back"
         done
     done

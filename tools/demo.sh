@@ -17,8 +17,8 @@ stream=$folder/picture.jxs
 back=$folder/back.raw
 width=512
 height=512
-# No slice of four lines of 512 samples has more than 5170 bytes.
-share=6000
+# No slice of sixteen lines of 512 samples has more than 20798 bytes.
+share=21000
 
 # A ramp over twice the width. Row r of the picture is cut from it at place r, so that the ramp slants.
 make_picture() {
@@ -46,7 +46,7 @@ size_of() {
 
 prove=${1:-}
 make_picture
-encode="encode --form xs --width $width --height $height --format mono --nlx 1 --nly 0 --quant deadzone --share $share"
+encode="encode --form xs --width $width --height $height --format mono --nlx 5 --nly 2 --quant deadzone --share $share"
 decode="decode --form xs"
 
 # The words of a command are split at blanks, on purpose.
