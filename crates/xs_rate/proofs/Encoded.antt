@@ -2,31 +2,34 @@
 use Rattle.std.proofs.Common.{◌≡◌, ℕ, ◌+◌, ◌-◌, ◌*◌, ◌/◌, ◌^◌, ◌<◌, ◌≤◌, max, ℤ, pos, List, [], ◌∷◌, map, length, get_or, refl, sym, ap, subst, ◌∙◌, arith, inl, inr}
 use Rattle.std.specs.Prelude.{Bool, true, false, nat_lt, nat_le, if◌then◌else◌, unsigned_abs, unwrap_or, find, Some, None, Ok}
 use Rattle.std.specs.List.{flat_map, sum_by, concat, AllByRecursion}
-use Rattle.std.proofs.lemmas.Bool.{and_parts, and_from, ltb-true, leb-true, le-leb, false≢true}
+use Rattle.std.proofs.lemmas.Bool.{and_parts, and_from, ltb-true, leb-true, le-leb}
 use Rattle.std.proofs.lemmas.Nat.{pow_pos}
 use Rattle.std.proofs.lemmas.List.Concat.{length-flat_map, concat_is}
 use Rattle.std.proofs.lemmas.List.Folds.{flat_map-map}
+use Rattle.std.proofs.lemmas.List.Elements.{recursion_from_All, All-weaker}
 use Rattle.std.proofs.lemmas.List.FromFn.{length-map-range_with_len, get_or-map-range_with_len}
 use Rattle.xs_lists.specs.Spelling.{upto, SpellsEach}
 use Rattle.xs_lists.proofs.Each.{each-made, range-all}
 use Rattle.xs_lists.proofs.Walk.{all-of_map}
 use Rattle.xs_layout.specs.declared.Candidate.{Candidate}
 use Rattle.xs_layout.specs.Candidates.{finest}
+use Rattle.xs_layout.specs.declared.Weight.{Weight}
 use Rattle.xs_layout.specs.Weighting.{truncation_of}
 use Rattle.xs_params.specs.declared.header.Header.{Header}
 use Rattle.xs_params.specs.declared.settings.Settings.{Settings}
-use Rattle.xs_params.specs.Check.{AreInRange}
+use Rattle.xs_params.specs.Check.{AreInRange, AreWeights}
 use Rattle.xs_params.specs.Headers.{header_of}
+use Rattle.xs_params.proofs.HeaderWeights.{header_weights}
 use Rattle.xs_params.specs.Stream.{Stream, stream_bytes}
 use Rattle.xs_signal.specs.Quantiser.{quantised, sent, with_sign_of}
 use Rattle.xs_signal.proofs.Laws.{quantised_fits}
 use Rattle.xs_signal.proofs.Magnitudes.{size_signed}
-use Rattle.xs_grammar.specs.Geometry.{slice_count}
+use Rattle.xs_grammar.specs.Geometry.{bands_of, slice_count}
 use Rattle.xs_grammar.specs.Precinct.{Content, weight_of}
 use Rattle.xs_grammar.specs.Slice.{IsSlice}
 use Rattle.xs_grammar.specs.Header.{IsAccepted}
 use Rattle.xs_grammar.specs.Codestream.{IsCodestream}
-use Rattle.xs_grammar.specs.Coded.{header_bytes, IsWritableLine}
+use Rattle.xs_grammar.specs.Coded.{header_bytes, HasRoom, IsWritableLine}
 use Rattle.xs_grammar.proofs.Coded.{written_slice, writable_everywhere}
 use Rattle.xs_grammar.proofs.CodedStream.{written_header}
 use Rattle.xs_grammar.proofs.Local.{slice_is_local}
@@ -34,14 +37,14 @@ use Rattle.xs_grammar.proofs.Sizes.{size_of_slice}
 use Rattle.xs_rate.specs.Coefficients.{Rows, rows_of}
 use Rattle.xs_rate.specs.Content.{planes_of, greatest_of, cut_of, content_of}
 use Rattle.xs_rate.specs.Built.{candidates}
-use Rattle.xs_rate.specs.Encoding.{IsBuilt, content_at, slice_at, slices_at, size_at, fields_fit_at, fits_at, coarsest, chosen_candidate, encoding_of_rows, encoding_of}
+use Rattle.xs_rate.specs.Encoding.{IsBuilt, with_length, content_at, slice_at, slices_at, size_at, fields_fit_at, fits_at, coarsest, chosen_candidate, encoding_of_rows, encoding_of}
 use Rattle.xs_rate.specs.Laws.{AreSmall}
 use Rattle.xs_rate.specs.Encoded.{chosen_stream, NoneOver, chosen_content, stated_header, IsEncoding, EncodedInGrammar}
 use Rattle.xs_rate.proofs.Digits.{digits-most}
 use Rattle.xs_rate.proofs.Finest.{planes-room}
 use Rattle.xs_rate.proofs.Rows.{small_rows}
-use Rattle.xs_rate.proofs.Grey.{grey, built-header, grey-length}
-use Rattle.xs_rate.proofs.Fits.{grey-fits, lengths-most, joined-stream, length-stream}
+use Rattle.xs_rate.proofs.Headers.{built_header, few_bands, length-built}
+use Rattle.xs_rate.proofs.Fits.{finest_fits, lengths-most, joined-stream, length-stream}
 use Rattle.xs_rate.proofs.FirstOver.{cases_over, same_stream, no_both}
 
 -- Each line of small rows can be written, at every candidate
@@ -113,139 +116,142 @@ chosen-finest h rows share slice = cases (fits_at h rows share slice finest)
 concat_map : {A : Type 0} (f : A → List ℕ) (xs : List A) → concat (map f xs) ≡ flat_map f xs
 concat_map f xs = concat_is (map f xs) ∙ flat_map-map (λ l. l) f xs
 
-accepted : (lcod width height hsl : ℕ) → (32 ≤ width) × (width ≤ 8192) → (4 ≤ height) × (height ≤ 8192) → width * height ≤ 2 ^ 24 → 1 ≤ hsl → slice_count (grey lcod width height hsl) ≤ 2047
-    → IsAccepted (grey lcod width height hsl)
-accepted lcod width height hsl wide high area some few = record {
-  width = wide;
-  height = high;
-  area = area;
-  depth = inl refl;
-  hsl = some;
+-- The header, whatever length it states
+
+accepted : (s : Settings) → AreInRange s → (lcod : ℕ) → IsAccepted (with_length (header_of s) lcod)
+accepted s range lcod = record {
+  width = (range.shape.least_width, range.shape.most_width);
+  height = (range.shape.least_height, range.shape.most_height);
+  area = range.shape.area;
+  depth = range.shape.depth;
+  hsl = range.least_height;
   bits = (refl, refl);
-  colour = λ e. absurd (false≢true e);
-  nlx = omega arith;
-  nly = omega arith;
-  slices = few;
+  colour = range.colour;
+  nlx = (range.some_across, range.across);
+  nly = range.down;
+  slices = range.slices;
   run_mode = omega arith;
-  narrow = omega (arith, wide);
-  weights = refl;
+  narrow = range.narrowest;
+  weights = (header_weights s range).one_each;
 }
 
--- what is known of the settings
-pub record AreBounds (width height hsl share : ℕ) : Type 0 where
-  pub wide : (32 ≤ width) × (width ≤ 8192)
-  pub high : (4 ≤ height) × (height ≤ 8192)
-  pub area : width * height ≤ 2 ^ 24
-  pub some : 1 ≤ hsl
-  pub most : hsl < 2 ^ 16
-  pub few : slice_count (grey 0 width height hsl) ≤ 2047
-  pub small_share : share ≤ 524286
+has_room : (s : Settings) → IsBuilt s → AreInRange s → (lcod : ℕ) → lcod < 2 ^ 32 → HasRoom (with_length (header_of s) lcod)
+has_room s built range lcod small = record {
+  lcod = small;
+  hsl = range.most_height;
+  gains = recursion_from_All (λ (w : Weight). w.gain < 2 ^ 8) weights (All-weaker (λ (w : Weight). w.gain ≤ 15) (λ (w : Weight). w.gain < 2 ^ 8) (λ w p. omega (arith, p)) weights known.gains);
+  priorities = recursion_from_All (λ (w : Weight). w.priority < 2 ^ 8) weights
+      (All-weaker (λ (w : Weight). w.priority < bands_of (header_of s)) (λ (w : Weight). w.priority < 2 ^ 8) (λ w p. below w.priority (bands_of (header_of s)) p (few_bands s built range)) weights known.priorities);
+}
+  where
+    weights : List Weight
+    weights = (header_of s).weights
 
-grey_encoding : (width height hsl share : ℕ) (rows : Rows) → AreBounds width height hsl share → AreSmall rows → NoneOver (grey 0 width height hsl) rows share
-    → IsEncoding (grey 0 width height hsl) rows share (chosen_stream (grey 0 width height hsl) rows share)
-grey_encoding width height hsl share rows b small within = record {
-  whole = subst (λ n. IsCodestream (grey n width height hsl) content (stream_bytes stream)) (sym total) whole;
+    known : AreWeights (bands_of (header_of s)) (header_of s).weights
+    known = header_weights s range
+
+    below : (n bands : ℕ) → n < bands → bands ≤ 10 → n < 2 ^ 8
+    below n bands p q = omega (arith, p, q)
+
+built_encoding : (s : Settings) (rows : Rows) → IsBuilt s → AreInRange s → AreSmall rows → NoneOver (header_of s) rows s.share
+    → IsEncoding (header_of s) rows s.share (chosen_stream (header_of s) rows s.share)
+built_encoding s rows built range small within = record {
+  whole = subst (λ n. IsCodestream (with_length (header_of s) n) content (stream_bytes stream)) (sym total) whole;
   count = length-map-range_with_len slice_of 0 count;
   each = λ slice inside. record {
     spelled = subst (IsSlice (stated_header h stream) content slice) (sym (at slice inside)) (spelled (length (stream_bytes stream)) slice inside);
-    within = subst (λ l. length l ≤ share) (sym (at slice inside)) (short slice inside);
+    within = subst (λ l. length l ≤ s.share) (sym (at slice inside)) (short slice inside);
   };
 }
   where
     h : Header
-    h = grey 0 width height hsl
+    h = header_of s
 
     count : ℕ
-    count = slice_count (grey 0 width height hsl)
+    count = slice_count (header_of s)
+
+    few : slice_count (header_of s) ≤ 2047
+    few = range.slices
 
     chosen : ℕ → Candidate
-    chosen = chosen_candidate (grey 0 width height hsl) rows share
+    chosen = chosen_candidate (header_of s) rows s.share
 
     content : Content
-    content = chosen_content (grey 0 width height hsl) rows share
+    content = chosen_content (header_of s) rows s.share
 
     slice_of : ℕ → List ℕ
     slice_of slice = slice_at h rows slice (chosen slice)
 
     stream : Stream
-    stream = chosen_stream h rows share
+    stream = chosen_stream h rows s.share
 
     size : ℕ
     size = length (header_bytes h) + sum_by length (slices_at h rows chosen) + 2
 
-    fits : (slice : ℕ) → slice < count → fits_at h rows share slice (chosen slice) ≡ true
-    fits slice inside = chosen-fits h rows share slice (within slice inside) (grey-fits 0 width height hsl slice rows b.wide.1 small)
+    fits : (slice : ℕ) → slice < count → fits_at h rows s.share slice (chosen slice) ≡ true
+    fits slice inside = chosen-fits h rows s.share slice (within slice inside) (finest_fits h rows slice (built_header s built range) small)
 
-    parts : (slice : ℕ) → slice < count → (nat_le (size_at h rows slice (chosen slice)) share ≡ true) × (fields_fit_at h rows slice (chosen slice) ≡ true)
-    parts slice inside = and_parts (nat_le (size_at h rows slice (chosen slice)) share) (fields_fit_at h rows slice (chosen slice)) (fits slice inside)
+    parts : (slice : ℕ) → slice < count → (nat_le (size_at h rows slice (chosen slice)) s.share ≡ true) × (fields_fit_at h rows slice (chosen slice) ≡ true)
+    parts slice inside = and_parts (nat_le (size_at h rows slice (chosen slice)) s.share) (fields_fit_at h rows slice (chosen slice)) (fits slice inside)
 
-    short : (slice : ℕ) → slice < count → length (slice_of slice) ≤ share
+    short : (slice : ℕ) → slice < count → length (slice_of slice) ≤ s.share
     short slice inside =
-        let most = leb-true (size_at h rows slice (chosen slice)) share (parts slice inside).0 in
-        omega (arith, size_of_slice h (content_at h rows (chosen slice)) (λ _ _. 0) slice, most)
+        let most = leb-true (size_at h rows slice (chosen slice)) s.share (parts slice inside).0 in
+        subst (λ n. n ≤ s.share) (sym (size_of_slice h (content_at h rows (chosen slice)) (λ _ _. 0) slice)) most
 
     room : (slice : ℕ) → ((chosen slice).q < 2 ^ 8) × ((chosen slice).r < 2 ^ 8)
-    room slice = subst (λ (c : Candidate). (c.q < 2 ^ 8) × (c.r < 2 ^ 8)) (sym (chosen-finest h rows share slice)) (omega arith, omega arith)
+    room slice = subst (λ (c : Candidate). (c.q < 2 ^ 8) × (c.r < 2 ^ 8)) (sym (chosen-finest h rows s.share slice)) (omega arith, omega arith)
 
-    spelled : (lcod slice : ℕ) → slice < count → IsSlice (grey lcod width height hsl) content slice (slice_of slice)
+    spelled : (lcod slice : ℕ) → slice < count → IsSlice (with_length (header_of s) lcod) content slice (slice_of slice)
     spelled lcod slice inside =
-        slice-local (grey lcod width height hsl) rows chosen slice (slice_of slice) b.some (omega arith)
-        (slice-spelled (grey lcod width height hsl) rows slice (chosen slice) refl (omega (arith, inside, b.few)) (room slice) small (parts slice inside).1)
+        slice-local (with_length (header_of s) lcod) rows chosen slice (slice_of slice) range.least_height (omega (arith, range.down))
+        (slice-spelled (with_length (header_of s) lcod) rows slice (chosen slice) refl (omega (arith, inside, few)) (room slice) small (parts slice inside).1)
 
     at : (slice : ℕ) → slice < count → get_or (slices_at h rows chosen) slice [] ≡ slice_of slice
     at slice inside = get_or-map-range_with_len slice_of 0 count slice slice [] inside (omega arith)
 
-    all_short : AllByRecursion (λ slice. length slice ≤ share) (slices_at h rows chosen)
-    all_short = all-of_map (λ slice. length slice ≤ share) slice_of (upto count) (range-all (λ slice. length (slice_of slice) ≤ share) 0 count (λ slice low inside. short slice (omega (arith, inside))))
+    all_short : AllByRecursion (λ slice. length slice ≤ s.share) (slices_at h rows chosen)
+    all_short =
+        all-of_map (λ slice. length slice ≤ s.share) slice_of (upto count) (range-all (λ slice. length (slice_of slice) ≤ s.share) 0 count (λ slice low inside. short slice (omega (arith, inside))))
 
     sum : length (concat (slices_at h rows chosen)) ≡ sum_by length (slices_at h rows chosen)
     sum = ap length (concat_is (slices_at h rows chosen)) ∙ length-flat_map (λ l. l) (slices_at h rows chosen)
 
     total : length (stream_bytes stream) ≡ size
-    total = omega (arith, length-stream stream, grey-length size width height hsl, grey-length 0 width height hsl, sum)
+    total =
+        length-stream stream
+        ∙ ap (λ n. n + length (concat (slices_at h rows chosen)) + 2) (length-built s built range size ∙ sym (length-built s built range 0))
+        ∙ ap (λ n. length (header_bytes h) + n + 2) sum
 
     small_size : size < 2 ^ 32
-    small_size = omega (arith, grey-length 0 width height hsl, sum, lengths-most share (slices_at h rows chosen) b.small_share all_short, length-map-range_with_len slice_of 0 count, b.few)
+    small_size =
+        bound (length (header_bytes h)) (bands_of h) (length (concat (slices_at h rows chosen))) (sum_by length (slices_at h rows chosen)) (length (slices_at h rows chosen))
+        (length-built s built range 0) (few_bands s built range) sum (lengths-most s.share (slices_at h rows chosen) (omega (arith, range.most_share, range.most_chunk)) all_short)
+        (omega (arith, length-map-range_with_len slice_of 0 count, few))
+      where
+        bound : (front bands pieces sizes n : ℕ) → front ≡ 44 + 2 * bands → bands ≤ 10 → pieces ≡ sizes → pieces ≤ 524286 * n → n ≤ 2047 → front + sizes + 2 < 2 ^ 32
+        bound front bands pieces sizes n p q r t u = omega (arith, p, q, r, t, u)
 
-    whole : IsCodestream (grey size width height hsl) content (stream_bytes stream)
+    whole : IsCodestream (with_length (header_of s) size) content (stream_bytes stream)
     whole = record {
-      header = header_bytes (grey size width height hsl);
+      header = header_bytes (with_length (header_of s) size);
       slices = concat (slices_at h rows chosen);
       joined = joined-stream stream;
-      headed = written_header (grey size width height hsl) (accepted size width height hsl b.wide b.high b.area b.some b.few)
-          (record { lcod = small_size; hsl = b.most; gains = (omega arith, (omega arith, tt)); priorities = (omega arith, (omega arith, tt)) });
-      spelled = subst (SpellsEach (IsSlice (grey size width height hsl) content) (upto count)) (sym (concat_map slice_of (upto count)))
-          (each-made (IsSlice (grey size width height hsl) content) slice_of (upto count)
-          (range-all (λ slice. IsSlice (grey size width height hsl) content slice (slice_of slice)) 0 count (λ slice low inside. spelled size slice (omega (arith, inside)))));
+      headed = written_header (with_length (header_of s) size) (accepted s range size) (has_room s built range size small_size);
+      spelled = subst (SpellsEach (IsSlice (with_length (header_of s) size) content) (upto count)) (sym (concat_map slice_of (upto count)))
+          (each-made (IsSlice (with_length (header_of s) size) content) slice_of (upto count)
+          (range-all (λ slice. IsSlice (with_length (header_of s) size) content slice (slice_of slice)) 0 count (λ slice low inside. spelled size slice (omega (arith, inside)))));
       stated = inr (sym total);
     }
 
-bounds : (s : Settings) → IsBuilt s → AreInRange s → AreBounds s.shape.width s.shape.height s.hsl s.share
-bounds s built range = record {
-  wide = (range.shape.least_width, range.shape.most_width);
-  high = (range.shape.least_height, range.shape.most_height);
-  area = range.shape.area;
-  some = range.least_height;
-  most = range.most_height;
-  few = subst (λ (h : Header). slice_count h ≤ 2047) (built-header s built) range.slices;
-  small_share = omega (arith, range.most_share, range.most_chunk);
-}
-
 rows_in_grammar : (s : Settings) (rows : Rows) (stream : Stream) → IsBuilt s → AreInRange s → AreSmall rows → encoding_of_rows (header_of s) rows s.share ≡ Ok stream
     → IsEncoding (header_of s) rows s.share stream
-rows_in_grammar s rows stream built range small =
-    subst (λ (h : Header). encoding_of_rows h rows s.share ≡ Ok stream → IsEncoding h rows s.share stream) (sym (built-header s built)) go
-  where
-    h : Header
-    h = grey 0 s.shape.width s.shape.height s.hsl
-
-    go : encoding_of_rows (grey 0 s.shape.width s.shape.height s.hsl) rows s.share ≡ Ok stream → IsEncoding (grey 0 s.shape.width s.shape.height s.hsl) rows s.share stream
-    go e = elim (cases_over h rows s.share) [
-      | inl none ↦
-          subst (IsEncoding h rows s.share) (same_stream (encoding_of_rows h rows s.share) (chosen_stream h rows s.share) stream none.1 e)
-          (grey_encoding s.shape.width s.shape.height s.hsl s.share rows (bounds s built range) small none.0)
-      | inr some ↦ absurd (no_both (encoding_of_rows h rows s.share) stream some.0 e some.2)
-    ]
+rows_in_grammar s rows stream built range small e = elim (cases_over (header_of s) rows s.share) [
+  | inl none ↦
+      subst (IsEncoding (header_of s) rows s.share) (same_stream (encoding_of_rows (header_of s) rows s.share) (chosen_stream (header_of s) rows s.share) stream none.1 e)
+      (built_encoding s rows built range small none.0)
+  | inr some ↦ absurd (no_both (encoding_of_rows (header_of s) rows s.share) stream some.0 e some.2)
+]
 
 pub encoded_in_grammar : EncodedInGrammar
 unfolding encoding_of

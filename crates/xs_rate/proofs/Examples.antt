@@ -1,10 +1,13 @@
--- A black picture of 32 by 4 samples, by computing.
-use Rattle.std.proofs.Common.{◌≡◌, ℕ, List, [], ◌∷◌, replicate, refl}
-use Rattle.std.specs.Prelude.{Ok, Err}
+-- A black picture of 32 by 4 samples, and the packets of a picture that is split down, by computing.
+use Rattle.std.proofs.Common.{◌≡◌, ℕ, List, [], ◌∷◌, map, length, take, replicate, refl}
+use Rattle.std.specs.Prelude.{false, Ok, Err}
 use Rattle.xs_layout.specs.declared.Format.TheVariants.{Mono}
+use Rattle.xs_layout.specs.declared.Quant.TheVariants.{DeadZone}
+use Rattle.xs_layout.specs.Weighting.{default_weights_of}
 use Rattle.xs_lists.specs.Bits.{bits_of}
 use Rattle.xs_params.specs.declared.header.Header.{Header}
 use Rattle.xs_params.specs.Picture.{Picture}
+use Rattle.xs_grammar.specs.Geometry.{packet_bands, packets_of, precinct_count}
 use Rattle.xs_grammar.specs.Precinct.{Content}
 use Rattle.xs_grammar.specs.Sizes.{slice_size}
 use Rattle.xs_layout.specs.declared.Candidate.{Candidate}
@@ -12,13 +15,29 @@ use Rattle.xs_layout.specs.Candidates.{finest}
 use Rattle.xs_rate.specs.Coefficients.{rows_of}
 use Rattle.xs_rate.specs.Encoding.{content_at, encoding_of_rows}
 use Rattle.xs_rate.specs.Modes.{least_mode}
-use Rattle.xs_rate.proofs.Grey.{grey}
 
 abbrev black : Picture
 black = record { shape = record { width = 32; height = 4; format = Mono; depth = 8 }; samples = replicate 128 0 }
 
+abbrev grey : ℕ → ℕ → ℕ → ℕ → ℕ → Header
+grey width height hsl nlx nly = record {
+  lcod = 0;
+  shape = record { width = width; height = height; format = Mono; depth = 8 };
+  hsl = hsl;
+  bw = 20;
+  fq = 8;
+  colour = false;
+  nlx = nlx;
+  nly = nly;
+  long_heads = false;
+  quant = DeadZone;
+  signs_apart = false;
+  run_mode = 0;
+  weights = default_weights_of nlx nly 1;
+}
+
 abbrev header : Header
-header = grey 0 32 4 4
+header = grey 32 4 4 1 0
 
 -- its header, which states 232 bytes
 abbrev black_header : List ℕ
@@ -85,3 +104,23 @@ size_next = refl
 size_after : size_with (record { q = 1; r = 0 }) ≡ 156
 unfolding bits_of
 size_after = refl
+
+-- Two levels across and two down in 17 lines: the last of the precincts has one line of LL, one of the deeper HL, and one of the other HL
+
+abbrev deep_header : Header
+deep_header = grey 32 17 5 2 2
+
+deep_precincts : precinct_count deep_header ≡ 5
+deep_precincts = refl
+
+last_packets : packets_of deep_header 4
+    ≡ record { first_type = 0; types = 1; line = 4 } ∷ record { first_type = 1; types = 1; line = 4 } ∷ record { first_type = 4; types = 1; line = 8 } ∷ []
+last_packets = refl
+
+-- a whole precinct has ten
+whole_packets : length (packets_of deep_header 3) ≡ 10
+whole_packets = refl
+
+-- the levels that are split across only are one packet, with LL and two HL
+first_bands : map (packet_bands (grey 32 17 5 3 1)) (take 1 (packets_of (grey 32 17 5 3 1) 0)) ≡ (0 ∷ 1 ∷ 2 ∷ []) ∷ []
+first_bands = refl

@@ -1,7 +1,9 @@
 pub mod Digits
 pub mod Finest
 pub mod Rows
-pub mod Grey
+pub mod Narrow
+pub mod Headers
+pub mod Packets
 pub mod Fits
 pub mod FirstOver
 pub mod Encoded

@@ -6,4 +6,4 @@ pub mod Encoding
 pub mod Finest
 pub mod Laws
 pub mod Encoded
-pub mod Grey
+pub mod WrittenOut

@@ -1,5 +1,5 @@
 -- What is built, written out: the packets of each precinct of a grey picture, at the finest candidate and with mode 0. 'Slice, precinct and packet'.
-use Rattle.std.specs.Prelude.{◌≡◌, ℕ, ◌+◌, ◌*◌, ◌<◌, ◌≤◌, List, [], ◌∷◌, ◌++◌, length, map}
+use Rattle.std.specs.Prelude.{◌≡◌, ℕ, ◌+◌, ◌*◌, ◌≤◌, List, [], ◌∷◌, ◌++◌, length, map}
 use Rattle.std.specs.List.{flat_map, Contains}
 use Rattle.xs_lists.specs.Packing.{packed}
 use Rattle.xs_lists.specs.Spelling.{upto}
@@ -9,12 +9,11 @@ use Rattle.xs_params.specs.declared.header.Header.{Header}
 use Rattle.xs_params.specs.declared.settings.Settings.{Settings}
 use Rattle.xs_params.specs.Check.{AreInRange}
 use Rattle.xs_params.specs.Headers.{header_of}
-use Rattle.xs_grammar.specs.Geometry.{bands_of, packet_bands, packets_of, precinct_count, precincts_of}
+use Rattle.xs_grammar.specs.Geometry.{bands_of, packet_bands, packets_of, precincts_of}
 use Rattle.xs_grammar.specs.Slice.{slice_head}
 use Rattle.xs_grammar.specs.Coded.{field_bytes, header_bytes}
 use Rattle.xs_rate.specs.Coefficients.{Rows}
 use Rattle.xs_rate.specs.Encoding.{IsBuilt, with_length, slice_at, slices_at, size_at, coarsest, chosen_candidate}
-use Rattle.xs_grammar.specs.Geometry.{slice_count}
 use Rattle.xs_rate.specs.Finest.{band_groups, row_counts, row_data}
 use Rattle.xs_rate.specs.Laws.{AreSmall}
 

@@ -4,18 +4,13 @@
 
 ghost use Rattle.xs_rate.specs.Encoded.{EncodedInGrammar, FirstOver};
 ghost use Rattle.xs_rate.specs.Finest.{FinestLine};
-ghost use Rattle.xs_rate.specs.Grey.{GreySlices, OneCandidate};
-ghost use Rattle.xs_rate.specs.Laws.{CoarsestFits, GreyRows, LengthFits, SmallRows};
+ghost use Rattle.xs_rate.specs.Laws.{CoarsestFits, GreyIsNarrow, LengthFits, SmallRows};
 ghost use Rattle.xs_rate.specs.Modes.{FewestIsFirst};
+ghost use Rattle.xs_rate.specs.WrittenOut.{FinestSlices, OneCandidate};
 
 /// A line of small numbers at the finest candidate: each count in ones and a zero, and all signs and planes.
 pub fn finest_line()
     ensures { FinestLine }
-{}
-
-/// The rows of a grey picture that is split once across: the low part and the high part of each line.
-pub fn grey_rows()
-    ensures { GreyRows }
 {}
 
 /// The coefficients of every picture are small.
@@ -53,7 +48,12 @@ pub fn one_candidate()
     ensures { OneCandidate }
 {}
 
-/// The bytes of a slice of a grey picture, line by line.
-pub fn grey_slices()
-    ensures { GreySlices }
+/// A packet of a grey picture has at most 2054 code groups.
+pub fn grey_is_narrow()
+    ensures { GreyIsNarrow }
+{}
+
+/// The bytes of a slice of a grey picture, packet by packet.
+pub fn finest_slices()
+    ensures { FinestSlices }
 {}
