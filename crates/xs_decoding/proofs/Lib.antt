@@ -1,2 +1,5 @@
 pub mod Numbers
 pub mod Within
+pub mod Packets
+pub mod Precincts
+pub mod Unread
