@@ -1,12 +1,13 @@
 -- The values that are accepted.
-use Rattle.std.proofs.Common.{◌≡◌, ℕ, ◌+◌, ◌-◌, ◌*◌, ◌/◌, ◌^◌, ◌≤◌, max, List, None, length, refl, sym, ap, subst, ◌∙◌, arith, inl}
+use Rattle.std.proofs.Common.{◌≡◌, ℕ, ◌*◌, ◌^◌, ◌≤◌, min, max, List, None, length, refl, sym, ap, subst, arith, inl}
+use Rattle.std.proofs.Math.Pow.{pow_mono}
 use Rattle.std.proofs.lemmas.Bool.{false≢true}
 use Rattle.xs_lists.specs.Fields.{field}
-use Rattle.xs_layout.specs.Geometry.{ceil_div, slice_count_of}
+use Rattle.xs_layout.specs.Geometry.{slice_count_of}
 use Rattle.xs_layout.specs.declared.Weight.{Weight}
 use Rattle.xs_grammar.specs.Header.{IsAccepted}
 use Rattle.xs_markers.specs.declared.picture.PictureFields.{PictureFields}
-use Rattle.xs_markers.specs.Reading.{byte_at, header_of, fields_fault, picture_rows, component_rows}
+use Rattle.xs_markers.specs.Reading.{byte_at, band_count, header_of, fields_fault, picture_rows, component_rows}
 use Rattle.xs_markers.proofs.Refusals.{none_refused, refused_none, is_equal, equal_is, is_within, within_is}
 
 -- each field of the picture header has a value that is taken
@@ -25,9 +26,9 @@ pub record Taken (p : PictureFields) : Type 0 where
   pub fslc : p.fslc ≡ 0
   pub ppoc : p.ppoc ≡ 0
   pub cpih : p.cpih ≡ 0
-  pub nlx : p.nlx ≡ 1
-  pub nly : p.nly ≡ 0
-  pub slices : ceil_div p.hf (max 1 p.hsl) ≤ 2047
+  pub nlx : (1 ≤ p.nlx) × (p.nlx ≤ 5)
+  pub nly : p.nly ≤ min 2 p.nlx
+  pub slices : slice_count_of p.hf p.nly (max 1 p.hsl) ≤ 2047
   pub qpih : p.qpih ≡ 0
   pub fs : p.fs ≡ 0
   pub rm : p.rm ≡ 0
@@ -53,9 +54,9 @@ taken_fields p e =
       fslc = is_equal p.fslc 0 third.1.0;
       ppoc = is_equal p.ppoc 0 third.1.1.0;
       cpih = is_equal p.cpih 0 third.1.1.1.0;
-      nlx = is_equal p.nlx 1 third.1.1.1.1.0;
-      nly = is_equal p.nly 0 fourth.0;
-      slices = (is_within 0 2047 (ceil_div p.hf (max 1 p.hsl)) fourth.1.0).1;
+      nlx = is_within 1 5 p.nlx third.1.1.1.1.0;
+      nly = (is_within 0 (min 2 p.nlx) p.nly fourth.0).1;
+      slices = (is_within 0 2047 (slice_count_of p.hf p.nly (max 1 p.hsl)) fourth.1.0).1;
       qpih = is_equal p.qpih 0 fourth.1.1.0;
       fs = is_equal p.fs 0 fourth.1.1.1.0;
       rm = is_equal p.rm 0 fourth.1.1.1.1.0;
@@ -92,11 +93,11 @@ fields_taken p t =
                               (
                                 equal_is p.cpih 0 t.cpih,
                                 (
-                                  equal_is p.nlx 1 t.nlx,
+                                  within_is 1 5 p.nlx t.nlx.0 t.nlx.1,
                                   (
-                                    equal_is p.nly 0 t.nly,
+                                    within_is 0 (min 2 p.nlx) p.nly (omega arith) t.nly,
                                     (
-                                      within_is 0 2047 (ceil_div p.hf (max 1 p.hsl)) (omega arith) t.slices,
+                                      within_is 0 2047 (slice_count_of p.hf p.nly (max 1 p.hsl)) (omega arith) t.slices,
                                       (
                                         equal_is p.qpih 0 t.qpih,
                                         (
@@ -146,14 +147,11 @@ component_taken body t =
 
 -- The header of such fields
 
--- the number of slices, where the picture is not split down
-pub slices_same : (height nly hsl : ℕ) → nly ≡ 0 → 1 ≤ hsl → slice_count_of height nly hsl ≡ ceil_div height (max 1 hsl)
-slices_same height nly hsl flat some =
-    let whole : (height + 1 - 1) / 1 ≡ height = omega arith in
-    let same : hsl ≡ max 1 hsl = omega (arith, some) in
-    ap (λ n. slice_count_of height n hsl) flat ∙ ap (λ n. ceil_div n hsl) whole ∙ ap (λ d. ceil_div height d) same
+-- the number of slices of such a height
+pub slices_same : (height nly hsl : ℕ) → 1 ≤ hsl → slice_count_of height nly hsl ≡ slice_count_of height nly (max 1 hsl)
+slices_same height nly hsl some = let same : hsl ≡ max 1 hsl = omega (arith, some) in ap (slice_count_of height nly) same
 
-pub accepted_fields : (p : PictureFields) (weights : List Weight) → Taken p → length weights ≡ 2 → IsAccepted (header_of p weights)
+pub accepted_fields : (p : PictureFields) (weights : List Weight) → Taken p → length weights ≡ band_count p → IsAccepted (header_of p weights)
 accepted_fields p weights t count = record {
   width = t.wf;
   height = t.hf;
@@ -162,10 +160,10 @@ accepted_fields p weights t count = record {
   hsl = t.hsl.0;
   bits = (t.bw, t.fq);
   colour = λ e. absurd (false≢true e);
-  nlx = (omega (arith, t.nlx), omega (arith, t.nlx));
-  nly = omega (arith, t.nly);
-  slices = subst (λ n. n ≤ 2047) (sym (slices_same p.hf p.nly p.hsl t.nly t.hsl.0)) t.slices;
+  nlx = t.nlx;
+  nly = t.nly;
+  slices = subst (λ n. n ≤ 2047) (sym (slices_same p.hf p.nly p.hsl t.hsl.0)) t.slices;
   run_mode = omega (arith, t.rm);
-  narrow = subst (λ n. 2 ^ n ≤ (p.wf + 1 - 1) / 1) (sym t.nlx) (omega (arith, t.wf.0));
-  weights = omega (arith, count, t.nlx, t.nly);
+  narrow = let few : 2 ^ p.nlx ≤ 2 ^ 5 = pow_mono t.nlx.1 in omega (arith, few, t.wf.0);
+  weights = omega (arith, count);
 }

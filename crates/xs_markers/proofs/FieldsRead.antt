@@ -22,9 +22,6 @@ picture_read body =
 abbrev pub component_read : List ℕ → List (ℕ × ℕ)
 component_read body = (8, byte_at body 0) ∷ (4, field 4 4 (byte_at body 1)) ∷ (4, field 4 0 (byte_at body 1)) ∷ []
 
-abbrev pub weights_read : List ℕ → List (ℕ × ℕ)
-weights_read body = (8, byte_at body 0) ∷ (8, byte_at body 1) ∷ (8, byte_at body 2) ∷ (8, byte_at body 3) ∷ []
-
 -- Fields of a byte, and what follows them
 
 before : (width value : ℕ) (x y : List ℕ) → x ≡ y → bits_of width value ++ x ≡ bits_of width value ++ y
@@ -108,7 +105,7 @@ picture_room body small size =
       small 19,
     )
 
--- The components and the weights
+-- The components
 
 pub component_bits : (body : List ℕ) → length body ≡ 2 → bits_of_bytes body ≡ bits_of_fields (component_read body)
 component_bits body size =
@@ -119,15 +116,3 @@ component_bits body size =
 
 pub component_room : (body : List ℕ) → IsBytes body → HaveRoom (component_read body)
 component_room body small = omega (arith, small 0, small 1)
-
-pub weights_bits : (body : List ℕ) → length body ≡ 4 → bits_of_bytes body ≡ bits_of_fields (weights_read body)
-weights_bits body size =
-    let none : bits_of_bytes (drop 4 body) ≡ [] = ap bits_of_bytes (drop_all 4 body (omega (arith, size))) in
-    byte_here body 0 (omega (arith, size))
-    ∙ before 8 (byte_at body 0) _ _ (byte_here body 1 (omega (arith, size))
-    ∙ before 8 (byte_at body 1) _ _ (byte_here body 2 (omega (arith, size))
-    ∙ before 8 (byte_at body 2) _ _ (byte_here body 3 (omega (arith, size))
-    ∙ before 8 (byte_at body 3) _ _ none)))
-
-pub weights_room : (body : List ℕ) → IsBytes body → HaveRoom (weights_read body)
-weights_room body small = omega (arith, small 0, small 1, small 2, small 3)

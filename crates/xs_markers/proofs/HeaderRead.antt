@@ -1,7 +1,7 @@
 -- Bytes of which nothing is refused are a header that is read.
 use Rattle.std.specs.Prelude.{◌⊎◌}
-use Rattle.std.proofs.Common.{◌≡◌, ℕ, ◌<◌, ◌≤◌, List, [], ◌∷◌, ◌++◌, length, take, drop, refl, sym, ap, subst, ◌∙◌, arith, append-nil, inl, inr}
-use Rattle.std.proofs.lemmas.List.{take-append-drop}
+use Rattle.std.proofs.Common.{◌≡◌, ℕ, ◌+◌, ◌-◌, ◌*◌, ◌<◌, ◌≤◌, List, [], ◌∷◌, ◌++◌, length, take, drop, refl, sym, ap, subst, ◌∙◌, arith, append-nil, inl, inr}
+use Rattle.std.proofs.lemmas.List.{take-append-drop, length-take}
 use Rattle.std.specs.List.{flat_map}
 use Rattle.xs_lists.specs.Bits.{bit_of, bits_of_fields, HaveRoom}
 use Rattle.xs_lists.specs.Fields.{field, has_bit, half_word_at, word_at}
@@ -11,9 +11,10 @@ use Rattle.xs_layout.specs.declared.Weight.{Weight}
 use Rattle.xs_grammar.specs.Header.{Segment, segment_bytes, soc, cap_code, pih_code, cdt_code, wgt_code, picture_fields, component_fields}
 use Rattle.xs_grammar.specs.Slice.{slh}
 use Rattle.xs_decoding.specs.Built.{IsBuiltHeader}
-use Rattle.xs_markers.specs.Reading.{soc_code, slh_code, body_at, byte_at, picture_of, weights_of, header_of}
+use Rattle.xs_markers.specs.Reading.{soc_code, slh_code, body_at, byte_at, picture_of, picture_at, band_count, table_size, end_of, weights_of, header_of}
 use Rattle.xs_markers.proofs.Cut.{IsBytes, piece_bytes, piece_size, half_word_bytes}
-use Rattle.xs_markers.proofs.FieldsRead.{picture_read, picture_bits, picture_room, component_read, component_bits, component_room, weights_bits, weights_room}
+use Rattle.xs_markers.proofs.FieldsRead.{picture_read, picture_bits, picture_room, component_read, component_bits, component_room}
+use Rattle.xs_markers.proofs.Weights.{weights_count, weights_bits, weights_room}
 use Rattle.xs_markers.proofs.Segments.{cut_on, join, segment_here}
 use Rattle.xs_markers.proofs.Accepted.{Taken, TakenComponent, accepted_fields}
 use Rattle.xs_markers.proofs.Unrefused.{IsUnrefused}
@@ -46,13 +47,13 @@ component_same body t =
     ∙ ap (λ n. (8, byte_at body 0) ∷ (4, field 4 4 (byte_at body 1)) ∷ (4, n) ∷ []) (sym t.sy)
 
 -- the header that is read, with its segments
-pub header_read : (bytes : List ℕ) → IsBytes bytes → IsUnrefused bytes → IsBuiltHeader (header_of (picture_of (body_at bytes 6 26)) (weights_of (body_at bytes 40 6))) (take 48 bytes)
+pub header_read : (bytes : List ℕ) → IsBytes bytes → IsUnrefused bytes → IsBuiltHeader (header_of (picture_at bytes) (weights_of (body_at bytes 40 (table_size (picture_at bytes))))) (take (end_of (picture_at bytes)) bytes)
 header_read bytes small u = record {
   spelled = record {
-    accepted = accepted_fields (picture_of picture) (weights_of weights) u.picture refl;
+    accepted = accepted_fields (picture_of picture) (weights_of weights) u.picture (omega (arith, weights_count weights, weights_size));
     segments = segment cap_code [] ∷ segment pih_code picture ∷ segment cdt_code component ∷ segment wgt_code weights ∷ [];
     joined = joined;
-    short = (omega arith, (omega (arith, picture_size), (omega (arith, component_size), (omega (arith, weights_size), tt))));
+    short = (omega arith, (omega (arith, picture_size), (omega (arith, component_size), (omega (arith, weights_size, few), tt))));
     said = record {
       profile = half_word_at picture 4;
       level = half_word_at picture 6;
@@ -73,12 +74,12 @@ header_read bytes small u = record {
       };
       weight_is = record {
         coded = refl;
-        room = weights_room weights (piece_bytes 4 44 bytes small (omega (arith, wgt_whole)));
-        spelled = weights_bits weights weights_size;
+        room = weights_room weights (piece_bytes (2 + 2 * bands - 2) 44 bytes small (omega (arith, wgt_whole)));
+        spelled = weights_bits weights bands weights_size;
       };
     };
   };
-  values = record { format = refl; depth = refl; colour = refl; across = u.picture.nlx; down = u.picture.nly; quant = refl; signs = refl; runs = u.picture.rm };
+  values = record { format = refl; depth = refl; colour = refl; quant = refl; signs = refl; runs = u.picture.rm };
   rest = segment pih_code picture ∷ segment cdt_code component ∷ segment wgt_code weights ∷ [];
   capabilities = refl;
   order = refl;
@@ -93,11 +94,17 @@ header_read bytes small u = record {
     component : List ℕ
     component = body_at bytes 34 4
 
-    weights : List ℕ
-    weights = body_at bytes 40 6
+    bands : ℕ
+    bands = band_count (picture_at bytes)
 
-    wgt_whole : 48 ≤ length bytes
-    wgt_whole = u.wgt.whole
+    few : bands ≤ 10
+    few = let across = u.picture.nlx in let down = u.picture.nly in omega (arith, across, down)
+
+    weights : List ℕ
+    weights = body_at bytes 40 (2 + 2 * bands)
+
+    wgt_whole : 44 + 2 * bands ≤ length bytes
+    wgt_whole = let whole : 40 + 2 + (2 + 2 * bands) ≤ length bytes = u.wgt.whole in omega (arith, whole)
 
     picture_size : length picture ≡ 24
     picture_size = piece_size 24 10 bytes (omega (arith, wgt_whole))
@@ -105,8 +112,8 @@ header_read bytes small u = record {
     component_size : length component ≡ 2
     component_size = piece_size 2 38 bytes (omega (arith, wgt_whole))
 
-    weights_size : length weights ≡ 4
-    weights_size = piece_size 4 44 bytes (omega (arith, wgt_whole))
+    weights_size : length weights ≡ 2 * bands
+    weights_size = let rest : 2 + 2 * bands - 2 ≡ 2 * bands = omega arith in piece_size (2 + 2 * bands - 2) 44 bytes (omega (arith, wgt_whole)) ∙ rest
 
     picture_small : IsBytes picture
     picture_small = piece_bytes 24 10 bytes small (omega (arith, wgt_whole))
@@ -117,18 +124,29 @@ header_read bytes small u = record {
     component_is : component_fields (header_of (picture_of picture) (weights_of weights)) ≡ component_read component
     component_is = component_same component u.component
 
-    joined : take 48 bytes ≡ soc ++ flat_map segment_bytes (segment cap_code [] ∷ segment pih_code picture ∷ segment cdt_code component ∷ segment wgt_code weights ∷ [])
+    joined : take (44 + 2 * bands) bytes ≡ soc ++ flat_map segment_bytes (segment cap_code [] ∷ segment pih_code picture ∷ segment cdt_code component ∷ segment wgt_code weights ∷ [])
     joined =
-        cut_on 2 46 0 bytes ∙ join _ _ _ _ (half_word_bytes bytes 0 soc_code small u.start.there u.start.coded)
-        (cut_on 4 42 2 bytes ∙ join _ _ _ _ (segment_here bytes 2 cap_code 2 small (omega arith) u.cap)
-        (cut_on 28 14 6 bytes ∙ join _ _ _ _ (segment_here bytes 6 pih_code 26 small (omega arith) u.pih)
-        (cut_on 6 8 34 bytes ∙ join _ _ _ _ (segment_here bytes 34 cdt_code 4 small (omega arith) u.cdt)
-        (segment_here bytes 40 wgt_code 6 small (omega arith) u.wgt ∙ sym (append-nil (segment_bytes (segment wgt_code weights)))))))
+        let last : ℕ = 2 + (2 + 2 * bands) in
+        let parts : 44 + 2 * bands ≡ 2 + (4 + (28 + (6 + last))) = omega arith in
+        ap (λ n. take n bytes) parts ∙ cut_on 2 (4 + (28 + (6 + last))) 0 bytes ∙ join _ _ _ _ (half_word_bytes bytes 0 soc_code small u.start.there u.start.coded)
+        (cut_on 4 (28 + (6 + last)) 2 bytes ∙ join _ _ _ _ (segment_here bytes 2 cap_code 2 small (omega arith) u.cap)
+        (cut_on 28 (6 + last) 6 bytes ∙ join _ _ _ _ (segment_here bytes 6 pih_code 26 small (omega arith) u.pih)
+        (cut_on 6 last 34 bytes ∙ join _ _ _ _ (segment_here bytes 34 cdt_code 4 small (omega arith) u.cdt)
+        (segment_here bytes 40 wgt_code (2 + 2 * bands) small (omega arith) u.wgt ∙ sym (append-nil (segment_bytes (segment wgt_code weights)))))))
+
+-- its table of weights
+pub few_bytes : (bytes : List ℕ) → IsUnrefused bytes → length (body_at bytes 40 (table_size (picture_at bytes))) ≤ 20
+few_bytes bytes u =
+    let across = u.picture.nlx in
+    let down = u.picture.nly in
+    let most : 2 + 2 * band_count (picture_at bytes) - 2 ≤ 20 = omega (arith, across, down) in
+    omega (arith, most, length-take (2 + 2 * band_count (picture_at bytes) - 2) (drop 44 bytes))
 
 -- and what follows it
-pub follows : (bytes : List ℕ) → IsBytes bytes → IsUnrefused bytes → (48 ≡ length bytes) ⊎ BeginsWith (drop 48 bytes) slh
+pub follows : (bytes : List ℕ) → IsBytes bytes → IsUnrefused bytes → (end_of (picture_at bytes) ≡ length bytes) ⊎ BeginsWith (drop (end_of (picture_at bytes)) bytes) slh
 follows bytes small u = elim u.ended [
-  | inl none ↦ let whole : 48 ≤ length bytes = u.wgt.whole in inl (omega (arith, none, whole))
+  | inl none ↦ let whole = u.wgt.whole in inl (omega (arith, none, whole))
   | inr code ↦
-      inr (drop 2 (drop 48 bytes), sym (take-append-drop 2 (drop 48 bytes)) ∙ ap (λ l. l ++ drop 2 (drop 48 bytes)) (half_word_bytes bytes 48 slh_code small code.there code.coded))
+      let after = drop (end_of (picture_at bytes)) bytes in
+      inr (drop 2 after, sym (take-append-drop 2 after) ∙ ap (λ l. l ++ drop 2 after) (half_word_bytes bytes (end_of (picture_at bytes)) slh_code small code.there code.coded))
 ]

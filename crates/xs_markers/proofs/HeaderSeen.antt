@@ -1,6 +1,6 @@
 -- Nothing is refused of a header that is read.
 use Rattle.std.specs.Prelude.{◌⊎◌}
-use Rattle.std.proofs.Common.{◌≡◌, ℕ, ◌+◌, ◌*◌, ◌^◌, ◌≤◌, max, List, [], ◌∷◌, ◌++◌, map, length, take, drop, get_or, refl, sym, ap, subst, ◌∙◌, arith, append_assoc, length-append, length-drop, inl, inr}
+use Rattle.std.proofs.Common.{◌≡◌, ℕ, ◌+◌, ◌*◌, ◌^◌, ◌≤◌, min, max, List, [], ◌∷◌, ◌++◌, map, length, take, drop, get_or, refl, sym, ap, subst, ◌∙◌, arith, append_assoc, length-append, length-drop, inl, inr}
 use Rattle.std.specs.Int.{from_be_bytes, w16}
 use Rattle.std.specs.List.{flat_map}
 use Rattle.std.proofs.lemmas.List.{take-append-drop, length-take-le}
@@ -9,13 +9,13 @@ use Rattle.xs_lists.specs.Fields.{field, half_word_at}
 use Rattle.xs_lists.specs.Spelling.{BeginsWith}
 use Rattle.xs_lists.proofs.Bits.{length-bits_of_bytes}
 use Rattle.xs_lists.proofs.Cut.{fields_agree}
-use Rattle.xs_layout.specs.Geometry.{components_of, ceil_div}
+use Rattle.xs_layout.specs.Geometry.{components_of, slice_count_of}
 use Rattle.xs_params.specs.declared.header.Header.{Header}
 use Rattle.xs_grammar.specs.Header.{Segment, segment_bytes, soc, cap_code, pih_code, cdt_code, wgt_code, quant_code, picture_fields, component_fields, weight_fields, IsAccepted, IsSegment, AreSegmentsOf, IsHeaderFront}
 use Rattle.xs_grammar.specs.Slice.{slh}
 use Rattle.xs_grammar.proofs.Coded.{length-widths}
 use Rattle.xs_decoding.specs.Built.{HasBuiltValues, IsBuiltHeader}
-use Rattle.xs_markers.specs.Reading.{slh_code, body_at, byte_at, picture_of}
+use Rattle.xs_markers.specs.Reading.{slh_code, body_at, byte_at, picture_of, picture_at, band_count, end_of}
 use Rattle.xs_markers.proofs.Bodies.{fields_of, weights_widths}
 use Rattle.xs_markers.proofs.Cut.{IsBytes, piece_bytes, half_word_small}
 use Rattle.xs_markers.proofs.FieldsRead.{picture_read, picture_bits, picture_room, component_read, component_bits, component_room}
@@ -83,6 +83,22 @@ bodies h x y z said = go said.order
 
 -- The picture header
 
+-- its fields have the values that the header says
+values_seen : (h : Header) (profile level raw_line : ℕ) (x : List ℕ) → IsBytes x → length x ≡ 24
+    → IsSegment pih_code (picture_fields h profile level raw_line) (segment pih_code x)
+    → map (λ (f : ℕ × ℕ). f.1) (picture_fields h profile level raw_line) ≡ map (λ (f : ℕ × ℕ). f.1) (picture_read x)
+values_seen h profile level raw_line x small size is =
+    (fields_agree (picture_fields h profile level raw_line) (picture_read x) [] [] refl is.room (picture_room x small size) (ap (λ l. l ++ []) (sym is.spelled ∙ picture_bits x small size))).0
+
+-- and so the number of bands
+bands_seen : (h : Header) (profile level raw_line : ℕ) (x : List ℕ) → IsBytes x → length x ≡ 24
+    → IsSegment pih_code (picture_fields h profile level raw_line) (segment pih_code x) → 2 * h.nly + h.nlx + 1 ≡ band_count (picture_of x)
+bands_seen h profile level raw_line x small size is =
+    let same = values_seen h profile level raw_line x small size is in
+    let nlx : h.nlx ≡ field 4 4 (byte_at x 22) = ap (λ l. get_or l 16 0) same in
+    let nly : h.nly ≡ field 4 0 (byte_at x 22) = ap (λ l. get_or l 17 0) same in
+    ap (λ n. 2 * n + h.nlx + 1) nly ∙ ap (λ n. 2 * field 4 0 (byte_at x 22) + n + 1) nlx
+
 picture_taken : (h : Header) (profile level raw_line : ℕ) (x : List ℕ) → IsBytes x → length x ≡ 24 → IsAccepted h → HasBuiltValues h
     → IsSegment pih_code (picture_fields h profile level raw_line) (segment pih_code x) → Taken (picture_of x)
 picture_taken h profile level raw_line x small size accepted values is = record {
@@ -100,16 +116,20 @@ picture_taken h profile level raw_line x small size accepted values is = record 
   fslc = sym (at 13);
   ppoc = sym (at 14);
   cpih = sym colour ∙ ap bit_of values.colour;
-  nlx = sym nlx ∙ values.across;
-  nly = sym nly ∙ values.down;
-  slices = subst (λ n. n ≤ 2047) (slices_same h.shape.height h.nly h.hsl values.down accepted.hsl ∙ ap (λ n. ceil_div n (max 1 h.hsl)) height ∙ ap (λ n. ceil_div (half_word_at x 10) (max 1 n)) hsl) accepted.slices;
+  nlx = subst (λ n. (1 ≤ n) × (n ≤ 5)) nlx accepted.nlx;
+  nly = subst (λ n. n ≤ min 2 (field 4 4 (byte_at x 22))) nly (subst (λ n. h.nly ≤ min 2 n) nlx accepted.nly);
+  slices =
+      subst (λ n. n ≤ 2047) (
+      slices_same h.shape.height h.nly h.hsl accepted.hsl ∙ ap (λ n. slice_count_of n h.nly (max 1 h.hsl)) height
+      ∙ ap (λ n. slice_count_of (half_word_at x 10) n (max 1 h.hsl)) nly ∙ ap (λ n. slice_count_of (half_word_at x 10) (field 4 0 (byte_at x 22)) (max 1 n)) hsl)
+      accepted.slices;
   qpih = sym quant ∙ ap quant_code values.quant;
   fs = sym signs ∙ ap bit_of values.signs;
   rm = sym runs ∙ values.runs;
 }
   where
     same : map (λ (f : ℕ × ℕ). f.1) (picture_fields h profile level raw_line) ≡ map (λ (f : ℕ × ℕ). f.1) (picture_read x)
-    same = (fields_agree (picture_fields h profile level raw_line) (picture_read x) [] [] refl is.room (picture_room x small size) (ap (λ l. l ++ []) (sym is.spelled ∙ picture_bits x small size))).0
+    same = values_seen h profile level raw_line x small size is
 
     at : (i : ℕ) → get_or (map (λ (f : ℕ × ℕ). f.1) (picture_fields h profile level raw_line)) i 0 ≡ get_or (map (λ (f : ℕ × ℕ). f.1) (picture_read x)) i 0
     at i = ap (λ l. get_or l i 0) same
@@ -177,12 +197,9 @@ component_size h y values is =
     sym (length-bits_of_bytes y) ∙ ap length (is.spelled ∙ ap bits_of_fields (component_is h values)) ∙ length-widths ((8, h.shape.depth) ∷ (4, 1) ∷ (4, 1) ∷ []) in
     omega (arith, bits)
 
-weights_size : (h : Header) (z : List ℕ) → IsAccepted h → HasBuiltValues h → IsSegment wgt_code (weight_fields h) (segment wgt_code z) → length z ≡ 4
+weights_size : (h : Header) (z : List ℕ) → IsAccepted h → HasBuiltValues h → IsSegment wgt_code (weight_fields h) (segment wgt_code z) → length z ≡ 2 * (2 * h.nly + h.nlx + 1)
 weights_size h z accepted values is =
-    let across = values.across in
-    let down = values.down in
-    let two : (2 * h.nly + h.nlx + 1) * 1 ≡ 2 = omega (arith, across, down) in
-    let count : length h.weights ≡ 2 = accepted.weights ∙ ap (λ f. (2 * h.nly + h.nlx + 1) * components_of f) values.format ∙ two in
+    let count : length h.weights ≡ (2 * h.nly + h.nlx + 1) * 1 = accepted.weights ∙ ap (λ f. (2 * h.nly + h.nlx + 1) * components_of f) values.format in
     let bits : 8 * length z ≡ 16 * length h.weights = sym (length-bits_of_bytes z) ∙ ap length is.spelled ∙ length-widths (weight_fields h) ∙ weights_widths h.weights in
     omega (arith, bits, count)
 
@@ -194,14 +211,14 @@ opened a b c d e rest = simp append_assoc
 -- a header that is read is at the front of the bytes
 pub record IsSeen (bytes : List ℕ) (n : ℕ) : Type 0 where
   pub unrefused : IsUnrefused bytes
-  pub ended : n ≡ 48
+  pub ended : n ≡ end_of (picture_at bytes)
 
-ends : (bytes : List ℕ) (n : ℕ) → n ≡ 48 → (n ≡ length bytes) ⊎ BeginsWith (drop n bytes) slh → (length bytes ≤ 48) ⊎ IsCodeAt bytes 48 slh_code
-ends bytes n here (inl whole) = inl (omega (arith, here, whole))
-ends bytes n here (inr begin) =
-    let there : drop 48 bytes ≡ 0xff ∷ 0x20 ∷ begin.0 = ap (λ k. drop k bytes) (sym here) ∙ begin.1 in
+ends : (bytes : List ℕ) (n end : ℕ) → n ≡ end → (n ≡ length bytes) ⊎ BeginsWith (drop n bytes) slh → (length bytes ≤ end) ⊎ IsCodeAt bytes end slh_code
+ends bytes n end here (inl whole) = inl (omega (arith, here, whole))
+ends bytes n end here (inr begin) =
+    let there : drop end bytes ≡ 0xff ∷ 0x20 ∷ begin.0 = ap (λ k. drop k bytes) (sym here) ∙ begin.1 in
     let size = ap length there in
-    inr (record { there = omega (arith, size, length-drop 48 bytes); coded = ap (λ l. from_be_bytes w16 (take 2 l)) there })
+    inr (record { there = omega (arith, size, length-drop end bytes); coded = ap (λ l. from_be_bytes w16 (take 2 l)) there })
 
 pub header_seen : (h : Header) (bytes : List ℕ) (n : ℕ) → IsBytes bytes → IsHeaderFront h bytes n → IsBuiltHeader h (take n bytes) → IsSeen bytes n
 header_seen h bytes n small front built = record {
@@ -209,13 +226,15 @@ header_seen h bytes n small front built = record {
     start = record { there = omega (arith, total); coded = ap (λ l. from_be_bytes w16 (take 2 l)) whole };
     cap = (segment_seen bytes soc (S6 ++ (S34 ++ (S40 ++ rest))) 2 cap_code 2 [] whole refl (omega arith) refl (omega arith)).0;
     pih = pih.0;
-    picture = subst (λ b. Taken (picture_of b)) (sym pih.1) (picture_taken h said.profile said.level said.raw_line x (subst IsBytes pih.1 (piece_bytes 24 10 bytes small (omega (arith, total)))) x_size accepted values said.picture);
+    picture = subst (λ b. Taken (picture_of b)) (sym pih.1) (picture_taken h said.profile said.level said.raw_line x x_small x_size accepted values said.picture);
     cdt = cdt.0;
     component = subst TakenComponent (sym cdt.1) (component_taken h y (subst IsBytes cdt.1 (piece_bytes 2 38 bytes small (omega (arith, total)))) y_size values said.component);
-    wgt = (segment_seen bytes (soc ++ (S2 ++ (S6 ++ S34))) rest 40 wgt_code 6 z at_wgt (omega (arith, length-append x S34, x_size, y_size)) (omega arith) (omega (arith, z_size)) (omega arith)).0;
-    ended = ends bytes n ended front.1;
+    wgt =
+        subst (λ b. IsSegmentAt bytes 40 wgt_code (2 + 2 * b)) bands_are
+        (segment_seen bytes (soc ++ (S2 ++ (S6 ++ S34))) rest 40 wgt_code (2 + 2 * bands) z at_wgt (omega (arith, length-append x S34, x_size, y_size)) (omega arith) (omega (arith, z_size)) (omega (arith, few))).0;
+    ended = ends bytes n (end_of (picture_at bytes)) here front.1;
   };
-  ended = ended;
+  ended = here;
 }
   where
     accepted : IsAccepted h
@@ -248,7 +267,13 @@ header_seen h bytes n small front built = record {
     y_size : length y ≡ 2
     y_size = component_size h y values said.component
 
-    z_size : length z ≡ 4
+    bands : ℕ
+    bands = 2 * h.nly + h.nlx + 1
+
+    few : bands ≤ 10
+    few = let across = accepted.nlx in let down = accepted.nly in omega (arith, across, down)
+
+    z_size : length z ≡ 2 * bands
     z_size = weights_size h z accepted values said.weight
 
     S2 : List ℕ
@@ -275,16 +300,25 @@ header_seen h bytes n small front built = record {
     inside : n ≤ length bytes
     inside = front.0.0
 
-    ended : n ≡ 48
+    ended : n ≡ 44 + 2 * bands
     ended =
         let size : n ≡ length (soc ++ (S2 ++ (S6 ++ (S34 ++ (S40 ++ []))))) = sym (length-take-le n bytes inside) ∙ ap length joined in
         omega (arith, size, length-append x (S34 ++ (S40 ++ [])), length-append y (S40 ++ []), length-append z [], x_size, y_size, z_size)
 
-    total : 48 ≤ length bytes
+    total : 46 ≤ length bytes
     total = omega (arith, inside, ended)
 
     pih : IsSegmentAt bytes 6 pih_code 26 × (body_at bytes 6 26 ≡ x)
     pih = segment_seen bytes (soc ++ S2) (S34 ++ (S40 ++ rest)) 6 pih_code 26 x whole refl (omega arith) (omega (arith, x_size)) (omega arith)
+
+    x_small : IsBytes x
+    x_small = subst IsBytes pih.1 (piece_bytes 24 10 bytes small (omega (arith, total)))
+
+    bands_are : bands ≡ band_count (picture_at bytes)
+    bands_are = bands_seen h said.profile said.level said.raw_line x x_small x_size said.picture ∙ ap (λ b. band_count (picture_of b)) (sym pih.1)
+
+    here : n ≡ end_of (picture_at bytes)
+    here = ended ∙ ap (λ b. 44 + 2 * b) bands_are
 
     at_cdt : bytes ≡ (soc ++ (S2 ++ S6)) ++ (S34 ++ (S40 ++ rest))
     at_cdt = whole ∙ sym (append_assoc (soc ++ S2) S6 (S34 ++ (S40 ++ rest)))

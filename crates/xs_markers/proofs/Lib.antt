@@ -3,6 +3,7 @@ mod Joined
 mod Packed
 mod Cut
 mod FieldsRead
+mod Weights
 mod Refusals
 mod Segments
 mod Accepted

@@ -1,9 +1,9 @@
 -- What is read of a header now, and why bytes are refused: docs/FORMAT.md, 'Codestream layout' and 'Picture header'. The segments stand in the writer's
 -- order, with empty capabilities, and so at fixed places; of some fields fewer values are taken than that page accepts.
-use Rattle.std.specs.Prelude.{ℕ, ◌+◌, ◌-◌, ◌*◌, ◌^◌, max, false, not, ◌||◌, nat_eq, nat_lt, nat_le, if◌then◌else◌, Option, None, List, [], ◌∷◌, length, map, take, drop, slice_index_or}
+use Rattle.std.specs.Prelude.{ℕ, ◌+◌, ◌-◌, ◌*◌, ◌^◌, min, max, false, not, ◌||◌, nat_eq, nat_lt, nat_le, if◌then◌else◌, Option, None, List, [], ◌∷◌, length, map, take, drop, slice_index_or}
 use Rattle.xs_lists.specs.Fields.{field, has_bit, half_word_at, word_at}
 use Rattle.xs_lists.specs.First.{first_of, first_some}
-use Rattle.xs_layout.specs.Geometry.{ceil_div}
+use Rattle.xs_layout.specs.Geometry.{slice_count_of}
 use Rattle.xs_layout.specs.declared.Format.TheVariants.{Mono}
 use Rattle.xs_layout.specs.declared.Quant.TheVariants.{DeadZone}
 use Rattle.xs_layout.specs.declared.Weight.{Weight}
@@ -57,9 +57,25 @@ picture_of body = record {
   rm = field 2 0 (byte_at body 23);
 }
 
--- the weights of two bands
+-- the picture header, which stands at one place
+abbrev pub picture_at : List ℕ → PictureFields
+picture_at bytes = picture_of (body_at bytes 6 26)
+
+-- the bands of a grey picture, the length of the table of their weights, and where the header ends
+abbrev pub band_count : PictureFields → ℕ
+band_count p = 2 * p.nly + p.nlx + 1
+
+abbrev pub table_size : PictureFields → ℕ
+table_size p = 2 + 2 * band_count p
+
+abbrev pub end_of : PictureFields → ℕ
+end_of p = 44 + 2 * band_count p
+
+-- the weights of bands, a gain and a priority each
 abbrev pub weights_of : List ℕ → List Weight
-weights_of body = record { gain = byte_at body 0; priority = byte_at body 1 } ∷ record { gain = byte_at body 2; priority = byte_at body 3 } ∷ []
+weights_of [] = []
+weights_of (gain ∷ []) = []
+weights_of (gain ∷ priority ∷ body) = record { gain = gain; priority = priority } ∷ weights_of body
 
 -- the header of fields whose values are accepted
 abbrev pub header_of : PictureFields → List Weight → Header
@@ -131,9 +147,9 @@ picture_rows p =
     ∷ only named.Fslc 0 p.fslc
     ∷ only named.Ppoc 0 p.ppoc
     ∷ only named.Cpih 0 p.cpih
-    ∷ only named.Nlx 1 p.nlx
-    ∷ only named.Nly 0 p.nly
-    ∷ within named.Slices 0 2047 (ceil_div p.hf (max 1 p.hsl))
+    ∷ within named.Nlx 1 5 p.nlx
+    ∷ within named.Nly 0 (min 2 p.nlx) p.nly
+    ∷ within named.Slices 0 2047 (slice_count_of p.hf p.nly (max 1 p.hsl))
     ∷ only named.Qpih 0 p.qpih
     ∷ only named.Fs 0 p.fs
     ∷ only named.Rm 0 p.rm
@@ -153,10 +169,10 @@ head_fault bytes =
     code_fault bytes 0 soc_code
     ∷ segment_fault bytes 2 cap_code 2
     ∷ segment_fault bytes 6 pih_code 26
-    ∷ fields_fault (picture_rows (picture_of (body_at bytes 6 26)))
+    ∷ fields_fault (picture_rows (picture_at bytes))
     ∷ segment_fault bytes 34 cdt_code 4
     ∷ fields_fault (component_rows (body_at bytes 34 4))
-    ∷ segment_fault bytes 40 wgt_code 6
-    ∷ end_fault bytes 48
+    ∷ segment_fault bytes 40 wgt_code (table_size (picture_at bytes))
+    ∷ end_fault bytes (end_of (picture_at bytes))
     ∷ []
     )

@@ -1,7 +1,7 @@
 // The fields of a picture header.
-ghost use Rattle.std.specs.Prelude.{◌≡◌, ◌*◌, length, max};
-ghost use Rattle.xs_layout.specs.Geometry.{ceil_div};
-ghost use Rattle.xs_markers.specs.Reading.{header_of, picture_of, picture_rows};
+ghost use Rattle.std.specs.Prelude.{◌≡◌, ◌+◌, ◌*◌, ◌<◌, ◌^◌, length, max};
+ghost use Rattle.xs_layout.specs.Geometry.{ceil_div, slice_count_of};
+ghost use Rattle.xs_markers.specs.Reading.{band_count, end_of, header_of, picture_of, picture_rows, table_size};
 
 use crate::numbers::{field, half_word_at, word_at};
 use crate::rows::{Row, only, within};
@@ -31,6 +31,15 @@ pub struct PictureFields {
     pub qpih: u8,
     pub fs: u8,
     pub rm: u8,
+}
+
+// A quotient rounded up.
+fn ceil_div(dividend: u32, divisor: u32) -> u32
+    requires divisor { 0 < divisor }
+    requires room { dividend + divisor < 2 ^ 32 }
+    ensures { result ≡ ceil_div dividend divisor }
+{
+    (dividend + divisor - 1) / divisor
 }
 
 impl PictureFields {
@@ -65,10 +74,11 @@ impl PictureFields {
 
     // The number of slices.
     fn slices(&self) -> u32
-        ensures { result ≡ ceil_div self.now.hf (max 1 self.now.hsl) }
+        requires down { self.now.nly < 16 }
+        ensures { result ≡ slice_count_of self.now.hf self.now.nly (max 1 self.now.hsl) }
     {
-        let hsl = u32::from(self.hsl.max(1));
-        (u32::from(self.hf) + hsl - 1) / hsl
+        let precincts = ceil_div(u32::from(self.hf), 1 << self.nly);
+        ceil_div(precincts, u32::from(self.hsl.max(1)))
     }
 
     fn area(&self) -> u32
@@ -79,6 +89,7 @@ impl PictureFields {
 
     /// The fields with the values that are refused of them, in the order in which they are asked.
     pub fn rows(&self) -> [Row; 20]
+        requires down { self.now.nly < 16 }
         ensures rows { result ≡ picture_rows self.now }
     {
         [
@@ -96,13 +107,40 @@ impl PictureFields {
             only(HeadField::Fslc, 0, u32::from(self.fslc)),
             only(HeadField::Ppoc, 0, u32::from(self.ppoc)),
             only(HeadField::Cpih, 0, u32::from(self.cpih)),
-            only(HeadField::Nlx, 1, u32::from(self.nlx)),
-            only(HeadField::Nly, 0, u32::from(self.nly)),
+            within(HeadField::Nlx, 1, 5, u32::from(self.nlx)),
+            within(
+                HeadField::Nly,
+                0,
+                2.min(u32::from(self.nlx)),
+                u32::from(self.nly),
+            ),
             within(HeadField::Slices, 0, 2047, self.slices()),
             only(HeadField::Qpih, 0, u32::from(self.qpih)),
             only(HeadField::Fs, 0, u32::from(self.fs)),
             only(HeadField::Rm, 0, u32::from(self.rm)),
         ]
+    }
+
+    // The number of bands.
+    fn bands(&self) -> u16
+        ensures count { result ≡ band_count self.now }
+        ensures few { result < 2 ^ 10 }
+    {
+        2 * u16::from(self.nly) + u16::from(self.nlx) + 1
+    }
+
+    /// The length of the table of weights.
+    pub fn table_size(&self) -> u16
+        ensures { result ≡ table_size self.now }
+    {
+        2 + 2 * self.bands()
+    }
+
+    /// Where the header ends.
+    pub fn end(&self) -> usize
+        ensures { result ≡ end_of self.now }
+    {
+        44 + 2 * usize::from(self.bands())
     }
 
     /// The header with these fields, whose values were accepted, and these weights.

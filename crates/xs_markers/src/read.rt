@@ -7,7 +7,7 @@ ghost use Rattle.xs_faults.specs.declared.HeadFault.TheVariants as HeadFault;
 ghost use Rattle.xs_grammar.specs.Header.{IsHeaderFront, pih_code};
 ghost use Rattle.xs_grammar.specs.Slice.{slh};
 ghost use Rattle.xs_decoding.specs.Built.{IsBuiltHeader};
-ghost use Rattle.xs_markers.specs.Reading.{body_at, code_fault, component_rows, end_fault, head_fault, picture_of, segment_fault, weights_of};
+ghost use Rattle.xs_markers.specs.Reading.{body_at, code_fault, component_rows, end_fault, head_fault, picture_at, segment_fault, table_size, weights_of};
 
 use crate::codes::{CAP, CDT, PIH, SLH, SOC, WGT};
 use crate::numbers::{field, half_word_at};
@@ -18,7 +18,7 @@ use xs_faults::{HeadFault, HeadField};
 use xs_io::Memory;
 use xs_params::{Header, Weight, Weights};
 
-// Where the segments of a header stand, and where it ends.
+// Where the segments of a header stand.
 const CAP_PLACE: usize = 2;
 
 const PIH_PLACE: usize = 6;
@@ -26,8 +26,6 @@ const PIH_PLACE: usize = 6;
 const CDT_PLACE: usize = 34;
 
 const WGT_PLACE: usize = 40;
-
-const END_PLACE: usize = 48;
 
 fn truncated(bytes: &[u8]) -> HeadFault
     requires few { length bytes.now < 2 ^ 32 }
@@ -110,28 +108,31 @@ fn component_rows(body: &[u8]) -> [Row; 3]
     ]
 }
 
-fn weights_of(body: &[u8]) -> [Weight; 2]
-    requires size { length body.now ≡ 4 }
-    ensures weights { result ≡ weights_of body.now }
+// The weights of at most ten bands.
+fn weights_of(alloc: Global, body: &[u8]) -> Result<Weights, Memory>
+    requires few { length body.now ≤ 20 }
+    ensures weights { IfOk result (λ weights. weights ≡ weights_of body.now) }
 {
-    [
-        Weight {
-            gain: body[0],
-            priority: body[1],
-        },
-        Weight {
-            gain: body[2],
-            priority: body[3],
-        },
-    ]
+    let mut weights = [Weight {
+        gain: 0,
+        priority: 0,
+    }; 10];
+    let bands = body.len() / 2;
+    'bands: for band in 0..bands {
+        weights[band] = Weight {
+            gain: body[2 * band],
+            priority: body[2 * band + 1],
+        };
+    }
+    Weights::from_slice(alloc, &weights[..bands])
 }
 
-// The picture header and the weights of a header of which nothing is refused.
-fn parts_of(bytes: &[u8]) -> Result<(PictureFields, [Weight; 2]), HeadFault>
+// The picture header and the table of weights of a header of which nothing is refused.
+fn parts_of(bytes: &[u8]) -> Result<(PictureFields, &[u8]), HeadFault>
     requires few { length bytes.now < 2 ^ 32 }
     ensures first { result_err result ≡ head_fault bytes.now }
-    ensures picture { IfOk result (λ parts. parts.0 ≡ picture_of (body_at bytes.now 6 26)) }
-    ensures weights { IfOk result (λ parts. parts.1 ≡ weights_of (body_at bytes.now 40 6)) }
+    ensures picture { IfOk result (λ parts. parts.0 ≡ picture_at bytes.now) }
+    ensures weights { IfOk result (λ parts. parts.1.now ≡ body_at bytes.now 40 (table_size (picture_at bytes.now))) }
 {
     want_code(bytes, 0, SOC)?;
     segment_at(bytes, CAP_PLACE, CAP, 2)?;
@@ -139,14 +140,14 @@ fn parts_of(bytes: &[u8]) -> Result<(PictureFields, [Weight; 2]), HeadFault>
     accept(&picture.rows())?;
     let component = segment_at(bytes, CDT_PLACE, CDT, 4)?;
     accept(&component_rows(component))?;
-    let weights = segment_at(bytes, WGT_PLACE, WGT, 6)?;
-    want_end(bytes, END_PLACE)?;
-    Ok((picture, weights_of(weights)))
+    let weights = segment_at(bytes, WGT_PLACE, WGT, picture.table_size())?;
+    want_end(bytes, picture.end())?;
+    Ok((picture, weights))
 }
 
 /// Reads a header from the front of the bytes, to the marker of the first slice or to their end, and gives the number of
-/// bytes that it has. What is read now are the segments in the order of `write_header`, of a grey picture of 8 bits that
-/// is split once across; profile, level, gains and priorities may have any value.
+/// bytes that it has. What is read now are the segments in the order of `write_header`, of a grey picture of 8 bits;
+/// profile, level, gains and priorities may have any value.
 pub fn read_header(alloc: Global, bytes: &[u8]) -> Result<(Header, usize), HeadFault>
     requires few { length bytes.now < 2 ^ 32 }
     // The bytes are a header that says this, and what follows it is a slice, or nothing.
@@ -159,8 +160,8 @@ pub fn read_header(alloc: Global, bytes: &[u8]) -> Result<(Header, usize), HeadF
     ensures first { IfErr result (λ fault. fault ≢ HeadFault.Memory → head_fault bytes.now ≡ Some fault) }
 {
     let (picture, weights) = parts_of(bytes)?;
-    match Weights::from_slice(alloc, &weights) {
-        Ok(weights) => Ok((picture.header(weights), END_PLACE)),
+    match weights_of(alloc, weights) {
+        Ok(weights) => Ok((picture.header(weights), picture.end())),
         Err(Memory) => Err(HeadFault::Memory),
     }
 }

@@ -17,22 +17,15 @@ const GREY: [u8; 48] = [
     0xff, 0x14, 0, 6, 0, 0, 0, 1,
 ];
 
+// A weight.
+fn weight(gain: u8, priority: u8) -> Weight {
+    Weight { gain, priority }
+}
+
 #[test]
 fn a_grey_header_is_written(rt: HostRuntime) -> Result<(), Fail> {
     let alloc = rt.alloc();
-    let weights = Weights::from_slice(
-        alloc,
-        &[
-            Weight {
-                gain: 0,
-                priority: 0,
-            },
-            Weight {
-                gain: 0,
-                priority: 1,
-            },
-        ],
-    )?;
+    let weights = Weights::from_slice(alloc, &[weight(0, 0), weight(0, 1)])?;
     let mut header = Header {
         lcod: 215,
         shape: Shape {
@@ -58,8 +51,69 @@ fn a_grey_header_is_written(rt: HostRuntime) -> Result<(), Fail> {
     let mut plain = GREY;
     plain[13] = 0xe8;
     assert!(rt; write_header(alloc, &header)?.as_slice() == plain.as_slice());
+    // The same picture split as often as can be.
+    header.nlx = 5;
+    header.nly = 2;
+    header.weights = Weights::from_slice(alloc, &DEEP_WEIGHTS)?;
+    assert!(rt; write_header(alloc, &header)?.as_slice() == &DEEP[..64]);
     Ok(())
 }
+
+// The header of a grey picture of 32 by 4 samples that is split five times across and twice down, in a codestream of
+// 232 bytes, and the marker of a slice. It has ten bands.
+const DEEP: [u8; 66] = [
+    0xff, 0x10, //
+    0xff, 0x50, 0, 2, //
+    0xff, 0x12, 0, 0x1a, 0, 0, 0, 0xe8, 0, 0, 0, 0, 0, 0x20, 0, 4, 0, 0, 0, 4, 1, 4, 8, 0x14, 0x84,
+    0, 0x52, 0, //
+    0xff, 0x13, 0, 4, 8, 0x11, //
+    0xff, 0x14, 0, 0x16, 4, 0, 3, 1, 3, 2, 2, 3, 11, 10, 13, 12, 15, 14, 0, 7, 0, 8, 0, 9, //
+    0xff, 0x20,
+];
+
+// Its weights.
+const DEEP_WEIGHTS: [Weight; 10] = [
+    Weight {
+        gain: 4,
+        priority: 0,
+    },
+    Weight {
+        gain: 3,
+        priority: 1,
+    },
+    Weight {
+        gain: 3,
+        priority: 2,
+    },
+    Weight {
+        gain: 2,
+        priority: 3,
+    },
+    Weight {
+        gain: 11,
+        priority: 10,
+    },
+    Weight {
+        gain: 13,
+        priority: 12,
+    },
+    Weight {
+        gain: 15,
+        priority: 14,
+    },
+    Weight {
+        gain: 0,
+        priority: 7,
+    },
+    Weight {
+        gain: 0,
+        priority: 8,
+    },
+    Weight {
+        gain: 0,
+        priority: 9,
+    },
+];
 
 // The same header in a codestream of 232 bytes, and the marker of a slice.
 const READ: [u8; 50] = [
@@ -75,12 +129,23 @@ const READ: [u8; 50] = [
 // It with some bytes changed, each given with its place.
 fn changed(changes: &[(usize, u8)]) -> [u8; 50] {
     let mut bytes = READ;
+    change(&mut bytes, changes);
+    bytes
+}
+
+// The header of ten bands with some bytes changed.
+fn deep_changed(changes: &[(usize, u8)]) -> [u8; 66] {
+    let mut bytes = DEEP;
+    change(&mut bytes, changes);
+    bytes
+}
+
+fn change(bytes: &mut [u8], changes: &[(usize, u8)]) {
     for (place, value) in changes {
         if let Some(byte) = bytes.get_mut(*place) {
             *byte = *value;
         }
     }
-    bytes
 }
 
 #[test]
@@ -102,17 +167,96 @@ fn a_grey_header_is_read(rt: HostRuntime) -> Result<(), Fail> {
     assert!(rt; header.shape.format == Format::Mono && header.quant == Quant::DeadZone);
     assert!(rt; header.nlx == 1 && header.nly == 0 && header.long_heads && header.run_mode == 0);
     assert!(rt; !header.colour && !header.signs_apart);
-    let weights = [
-        Weight {
-            gain: 9,
-            priority: 0,
-        },
-        Weight {
-            gain: 0,
-            priority: 8,
-        },
+    assert!(rt; header.weights.as_slice() == [weight(9, 0), weight(0, 8)].as_slice());
+    Ok(())
+}
+
+#[test]
+fn headers_of_all_splits_are_read(rt: HostRuntime) -> Result<(), Fail> {
+    // The byte of the levels across and down, the length of the table of weights, the bands, and where the header ends.
+    let splits = [
+        (0x10, 6, 2, 48),
+        (0x11, 10, 4, 52),
+        (0x20, 8, 3, 50),
+        (0x22, 16, 7, 58),
+        (0x31, 14, 6, 56),
+        (0x40, 12, 5, 54),
+        (0x50, 14, 6, 56),
+        (0x52, 22, 10, 64),
     ];
-    assert!(rt; header.weights.as_slice() == weights.as_slice());
+    let alloc = rt.alloc();
+    for (levels, length, bands, end) in splits {
+        let next = [(32, levels), (43, length), (end, 0xff), (end + 1, 0x20)];
+        let (header, size) = read_header(alloc, &deep_changed(&next))?;
+        assert!(rt; size == end);
+        assert!(rt; header.nlx == levels / 16 && header.nly == levels % 16);
+        assert!(rt; header.weights.as_slice() == &DEEP_WEIGHTS[..bands]);
+    }
+    Ok(())
+}
+
+#[test]
+fn tables_of_other_lengths_are_refused(rt: HostRuntime) -> Result<(), Fail> {
+    // The byte of the levels across and down, and the length of the table of weights: no weight, one less, one more, and
+    // those of other levels.
+    let lengths = [
+        (0x52, 2),
+        (0x52, 20),
+        (0x52, 24),
+        (0x51, 22),
+        (0x42, 22),
+        (0x11, 6),
+        (0x11, 8),
+        (0x10, 4),
+    ];
+    let alloc = rt.alloc();
+    for (levels, length) in lengths {
+        let stated = [(32, levels), (43, length)];
+        let fault = fault_of(alloc, &deep_changed(&stated));
+        assert!(rt;
+            fault
+                == Some(HeadFault::Length {
+                    code: 0xff14,
+                    length: u16::from(length)
+                })
+        );
+    }
+    Ok(())
+}
+
+#[test]
+fn few_slices_are_accepted(rt: HostRuntime) -> Result<(), Fail> {
+    let alloc = rt.alloc();
+    // A picture of 32 by 8192 samples, by its levels and the height of a slice: what is refused.
+    let refusals = [
+        (0x52, 1, 2048),
+        (0x51, 2, 2048),
+        (0x11, 1, 4096),
+        (0x50, 1, 8192),
+        (0x10, 4, 2048),
+    ];
+    for (levels, slice, value) in refusals {
+        let tall = [(20, 0x20), (21, 0), (25, slice), (32, levels)];
+        let fault = fault_of(alloc, &deep_changed(&tall));
+        assert!(rt;
+            fault
+                == Some(HeadFault::Unsupported {
+                    field: HeadField::Slices,
+                    value
+                })
+        );
+    }
+    // 1024 slices of four precincts of two lines.
+    let tall = [
+        (20, 0x20),
+        (21, 0),
+        (32, 0x11),
+        (43, 10),
+        (52, 0xff),
+        (53, 0x20),
+    ];
+    let (header, size) = read_header(alloc, &deep_changed(&tall))?;
+    assert!(rt; size == 52 && header.shape.height == 8192 && header.hsl == 4 && header.nly == 1);
     Ok(())
 }
 
@@ -189,8 +333,12 @@ fn other_values_are_refused(rt: HostRuntime) -> Result<(), Fail> {
         ((31, 0x80), HeadField::Fslc, 1),
         ((31, 0x10), HeadField::Ppoc, 1),
         ((31, 0x01), HeadField::Cpih, 1),
-        ((32, 0x20), HeadField::Nlx, 2),
-        ((32, 0x11), HeadField::Nly, 1),
+        ((32, 0x00), HeadField::Nlx, 0),
+        ((32, 0x60), HeadField::Nlx, 6),
+        ((32, 0xf0), HeadField::Nlx, 15),
+        ((32, 0x53), HeadField::Nly, 3),
+        ((32, 0x12), HeadField::Nly, 2),
+        ((32, 0x5f), HeadField::Nly, 15),
         ((33, 0x10), HeadField::Qpih, 1),
         ((33, 0x04), HeadField::Fs, 1),
         ((33, 0x01), HeadField::Rm, 1),
