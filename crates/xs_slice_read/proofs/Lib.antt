@@ -3,9 +3,13 @@ pub mod Numbered
 pub mod Heads
 pub mod Parts
 pub mod PrecinctHeads
+pub mod Placed
 pub mod Started
+pub mod Puts
+pub mod Walked
 pub mod Precincts
 pub mod Plain
+pub mod PlainPrecincts
 pub mod Rows
 pub mod Slices
-pub mod Puts
+pub mod Unbuilt

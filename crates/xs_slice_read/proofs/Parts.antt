@@ -1,8 +1,9 @@
 -- Counts and data of a packet, and its header before them.
 use Rattle.std.proofs.Common.{◌≡◌, ℕ, ◌+◌, ◌-◌, ◌*◌, ◌<◌, ◌≤◌, List, [], ◌∷◌, ◌++◌, map, take, drop, length, refl, sym, ap, subst, ◌∙◌, arith, append_assoc, length-append, length-take-le, length-drop}
-use Rattle.std.specs.Prelude.{Bool, true, false, if◌then◌else◌, Result, Ok, Err, OnOk, IfErr}
+use Rattle.std.specs.Prelude.{Bool, true, false, if◌then◌else◌}
 use Rattle.std.specs.List.{flat_map, sum_by, AllByRecursion}
-use Rattle.std.proofs.lemmas.List.{take-append-drop, take_all}
+use Rattle.std.proofs.lemmas.List.{take-append-drop, take_all, take_at}
+use Rattle.std.proofs.Math.Seq.{take-add}
 use Rattle.std.proofs.lemmas.List.Sums.{sum_by-cons}
 use Rattle.xs_lists.specs.Bits.{bits_of, bit_of, bits_of_bytes, bits_of_fields, HaveRoom}
 use Rattle.xs_lists.specs.Spelling.{BeginsWith}
@@ -13,7 +14,7 @@ use Rattle.xs_grammar.specs.Packet.{packet_fields}
 use Rattle.xs_faults.specs.declared.PrecinctFault.{PrecinctFault}
 use Rattle.xs_faults.specs.declared.PrecinctFault.TheVariants as fault
 use Rattle.xs_read_lines.specs.ReadLine.{Buffered, HasCounts, ReadLine}
-use Rattle.xs_slice_read.specs.Packet.{known_of, counted_line, line_counts, line_size, head_bytes, HasRange, HoldLines, AreLinesRead, ArePartsRead, BeginWithParts, IsPacketRead, BeginWithPacket, HasRawHead, IsPartsRefusal, IsPacketRefusal}
+use Rattle.xs_slice_read.specs.Packet.{known_of, counted_line, line_counts, line_size, head_bytes, HasRange, HoldLines, AreLinesRead, ArePartsRead, BeginWithParts, IsPacketOf, IsPacketRead, IsWholePacket, BeginWithPacket, HasRawHead, IsPartsRefusal, IsPacketRefusal}
 use Rattle.xs_slice_read.proofs.Counted.{unnumbered, lines_one}
 use Rattle.xs_slice_read.proofs.Heads.{bits_of_bytes-append}
 
@@ -90,8 +91,9 @@ head_length long raw planes counts signs head e = let n = fields_size long raw p
 
 pub head_refused : (long : Bool) (known : List (ℕ × ℕ)) (bytes : List ℕ) → length bytes < head_bytes long → BeginWithPacket long known bytes → ⊥
 head_refused long known bytes short p =
-    let size = head_length long false (length p.planes) (length p.counts) p.headed.stated p.head p.headed.spelled in
-    omega (arith, short, size, ap length p.joined, length-append p.head (p.counts ++ (p.planes ++ p.rest)))
+    let w : IsWholePacket long known p.0 = p.3 in
+    let size = head_length long false (length w.planes) (length w.counts) w.headed.stated w.head w.headed.spelled in
+    omega (arith, short, size, ap length p.2, length-append p.0 p.1, ap length w.joined, length-append w.head (w.counts ++ w.planes))
 
 one_bit : (raw : Bool) → bits_of 1 (bit_of raw) ≡ bit_of raw ∷ []
 unfolding bits_of
@@ -112,80 +114,96 @@ not_raw long raw planes counts signs bytes f e has =
     let zero : bit_of false ≡ 1 = ap bit_of (sym f) ∙ (same_head (bit_of raw) 1 [] [] bit).0 in
     absurd (omega (arith, zero))
 
+-- the header of a packet that begins the bytes does not say so
+pub raw_not_whole : (long : Bool) (known : List (ℕ × ℕ)) (bytes : List ℕ) → HasRawHead long bytes → BeginWithPacket long known bytes → ⊥
+raw_not_whole long known bytes raw p =
+    let w : IsWholePacket long known p.0 = p.3 in
+    let size = head_length long false (length w.planes) (length w.counts) w.headed.stated w.head w.headed.spelled in
+    let whole : bytes ≡ w.head ++ ((w.counts ++ w.planes) ++ p.1) = p.2 ∙ ap (λ l. l ++ p.1) w.joined ∙ append_assoc w.head (w.counts ++ w.planes) p.1 in
+    let front : take (head_bytes long) bytes ≡ w.head = ap (take (head_bytes long)) whole ∙ take_at w.head ((w.counts ++ w.planes) ++ p.1) (head_bytes long) size in
+    not_raw long false (length w.planes) (length w.counts) w.headed.stated bytes refl (ap bits_of_bytes front ∙ w.headed.spelled) raw
+
 -- Packets
 
-pub packet_read : (long raw : Bool) (kind : Quant) (planes counts signs : ℕ) (bands : List Buffered) (bytes : List ℕ) → raw ≡ false → HaveRoom (packet_fields long raw planes counts signs)
-    → bits_of_bytes (take (head_bytes long) bytes) ≡ bits_of_fields (packet_fields long raw planes counts signs) → ArePartsRead kind counts planes bands (drop (head_bytes long) bytes) → IsPacketRead long kind bands bytes
-packet_read long raw kind planes counts signs bands bytes f room spelled read =
+-- header, counts and data
+pub three_parts : (n counts planes : ℕ) (bytes : List ℕ) → take (n + counts + planes) bytes ≡ take n bytes ++ (take counts (drop n bytes) ++ take planes (drop counts (drop n bytes)))
+three_parts n counts planes bytes =
+    let e : n + counts + planes ≡ n + (counts + planes) = omega arith in
+    ap (λ k. take k bytes) e ∙ take-add n (counts + planes) bytes ∙ ap (λ l. take n bytes ++ l) (take-add counts planes (drop n bytes))
+
+pub packet_read : (long raw : Bool) (kind : Quant) (planes counts signs : ℕ) (bands : List Buffered) (bytes : List ℕ) → raw ≡ false → head_bytes long ≤ length bytes → HaveRoom (packet_fields long raw planes counts signs)
+    → bits_of_bytes (take (head_bytes long) bytes) ≡ bits_of_fields (packet_fields long raw planes counts signs) → ArePartsRead kind counts planes bands (drop (head_bytes long) bytes)
+    → IsPacketRead long kind bands bytes (head_bytes long + counts + planes)
+packet_read long raw kind planes counts signs bands bytes f enough room spelled read =
     let rest = drop (head_bytes long) bytes in
-    let head = take (head_bytes long) bytes in
     let first = take counts rest in
     let second = take planes (drop counts rest) in
     let size1 : length first ≡ counts = length-take-le counts rest (omega (arith, read.enough)) in
     let size2 : length second ≡ planes = length-take-le planes (drop counts rest) (omega (arith, read.enough, length-drop counts rest)) in
-    let whole : bytes ≡ (head ++ (first ++ second)) ++ drop planes (drop counts rest) =
-    sym (take-append-drop (head_bytes long) bytes) ∙ ap (λ l. head ++ l) (sym (take-append-drop counts rest) ∙ ap (λ l. first ++ l) (sym (take-append-drop planes (drop counts rest))) ∙ sym (append_assoc first second (drop planes (drop counts rest))))
-    ∙ sym (append_assoc head (first ++ second) (drop planes (drop counts rest))) in
     let fields : packet_fields long raw planes counts signs ≡ packet_fields long false (length second) (length first) signs =
     ap (λ r. packet_fields long r planes counts signs) f ∙ ap (λ n. packet_fields long false n counts signs) (sym size2) ∙ ap (λ n. packet_fields long false (length second) n signs) (sym size1) in
     record {
       lines = read.lines;
       held = read.held;
-      part = head ++ (first ++ second);
-      rest = drop planes (drop counts rest);
-      joined = whole;
+      enough = omega (arith, enough, read.enough, length-drop (head_bytes long) bytes);
       packet = record {
-        head = head;
+        head = take (head_bytes long) bytes;
         counts = first;
         planes = second;
-        joined = refl;
+        joined = three_parts (head_bytes long) counts planes bytes;
         headed = record { stated = signs; room = subst HaveRoom fields room; spelled = spelled ∙ ap bits_of_fields fields };
         parts = read.parts;
       };
     }
+
+-- a packet before other bytes
+whole_joined : (head counts planes bytes rest : List ℕ) → bytes ≡ head ++ (counts ++ planes) → bytes ++ rest ≡ head ++ (counts ++ (planes ++ rest))
+whole_joined head counts planes bytes rest e = ap (λ l. l ++ rest) e ∙ append_assoc head (counts ++ planes) rest ∙ ap (λ l. head ++ l) (append_assoc counts planes rest)
 
 -- a packet that begins the bytes has the parts that the header says
 pub parts_of_packet : (long raw : Bool) (known : List (ℕ × ℕ)) (planes counts signs : ℕ) (bytes : List ℕ) → head_bytes long ≤ length bytes → HaveRoom (packet_fields long raw planes counts signs)
     → bits_of_bytes (take (head_bytes long) bytes) ≡ bits_of_fields (packet_fields long raw planes counts signs) → BeginWithPacket long known bytes → BeginWithParts known counts planes (drop (head_bytes long) bytes)
 parts_of_packet long raw known planes counts signs bytes enough room spelled p =
     let rest = drop (head_bytes long) bytes in
-    let agree = head_agrees (take (head_bytes long) bytes) p.head (packet_fields long raw planes counts signs) (packet_fields long false (length p.planes) (length p.counts) p.headed.stated)
-    rest (p.counts ++ (p.planes ++ p.rest)) refl room p.headed.room spelled p.headed.spelled (take-append-drop (head_bytes long) bytes ∙ p.joined) in
-    let planes_size : planes ≡ length p.planes = cc agree.0 in
-    let counts_size : counts ≡ length p.counts = cc agree.0 in
-    let total : length rest ≡ length p.counts + (length p.planes + length p.rest) = omega (arith, ap length agree.1, length-append p.counts (p.planes ++ p.rest), length-append p.planes p.rest) in
+    let w : IsWholePacket long known p.0 = p.3 in
+    let agree = head_agrees (take (head_bytes long) bytes) w.head (packet_fields long raw planes counts signs) (packet_fields long false (length w.planes) (length w.counts) w.headed.stated)
+    rest (w.counts ++ (w.planes ++ p.1)) refl room w.headed.room spelled w.headed.spelled (take-append-drop (head_bytes long) bytes ∙ p.2 ∙ whole_joined w.head w.counts w.planes p.0 p.1 w.joined) in
+    let planes_size : planes ≡ length w.planes = cc agree.0 in
+    let counts_size : counts ≡ length w.counts = cc agree.0 in
+    let total : length rest ≡ length w.counts + (length w.planes + length p.1) = omega (arith, ap length agree.1, length-append w.counts (w.planes ++ p.1), length-append w.planes p.1) in
     let room1 : counts ≤ length rest = omega (arith, total, counts_size) in
-    let cut1 = append_cut (take counts rest) p.counts (drop counts rest) (p.planes ++ p.rest) (length-take-le counts rest room1 ∙ counts_size) (take-append-drop counts rest ∙ agree.1) in
+    let cut1 = append_cut (take counts rest) w.counts (drop counts rest) (w.planes ++ p.1) (length-take-le counts rest room1 ∙ counts_size) (take-append-drop counts rest ∙ agree.1) in
     let room2 : planes ≤ length (drop counts rest) = omega (arith, total, counts_size, planes_size, length-drop counts rest) in
-    let cut2 = append_cut (take planes (drop counts rest)) p.planes (drop planes (drop counts rest)) p.rest (length-take-le planes (drop counts rest) room2 ∙ planes_size) (take-append-drop planes (drop counts rest) ∙ cut1.1) in
+    let cut2 = append_cut (take planes (drop counts rest)) w.planes (drop planes (drop counts rest)) p.1 (length-take-le planes (drop counts rest) room2 ∙ planes_size) (take-append-drop planes (drop counts rest) ∙ cut1.1) in
     record {
-      lines = p.lines;
-      known_lines = p.known_lines;
+      lines = w.lines;
+      known_lines = w.known_lines;
       enough = omega (arith, total, counts_size, planes_size);
       parts = record {
-        range = p.parts.range;
-        counted = subst (λ l. BeginsWith (bits_of_bytes l) (flat_map line_counts p.lines)) (sym cut1.0) p.parts.counted;
-        large = subst (λ l. sum_by line_size p.lines ≤ length (bits_of_bytes l)) (sym cut2.0) p.parts.large;
+        range = w.parts.range;
+        counted = subst (λ l. BeginsWith (bits_of_bytes l) (flat_map line_counts w.lines)) (sym cut1.0) w.parts.counted;
+        large = subst (λ l. sum_by line_size w.lines ≤ length (bits_of_bytes l)) (sym cut2.0) w.parts.large;
       };
     }
 
-pub refusal_of_parts : (long : Bool) (known : List (ℕ × ℕ)) (planes counts : ℕ) (bytes rest : List ℕ) (f : PrecinctFault) → (BeginWithPacket long known bytes → BeginWithParts known counts planes rest)
-    → IsPartsRefusal known counts planes rest f → IsPacketRefusal long known bytes f
-refusal_of_parts long known planes counts bytes rest (fault.Overrun packet part) move none = λ p. none (move p)
-refusal_of_parts long known planes counts bytes rest (fault.Count packet value) move none = λ p. none (move p)
-refusal_of_parts long known planes counts bytes rest (fault.Unbuilt packet) move none = absurd none
-refusal_of_parts long known planes counts bytes rest fault.Truncated move none = none
-refusal_of_parts long known planes counts bytes rest fault.Memory move none = tt
+-- a packet ends where its header says
+pub one_end : (long : Bool) (known : List (ℕ × ℕ)) (lines : List ReadLine) (a b y z : List ℕ) → IsPacketOf long lines a → IsWholePacket long known b → a ++ y ≡ b ++ z → y ≡ z
+one_end long known lines a b y z p w e =
+    let agree = head_agrees p.head w.head (packet_fields long false (length p.planes) (length p.counts) p.headed.stated) (packet_fields long false (length w.planes) (length w.counts) w.headed.stated)
+    (p.counts ++ (p.planes ++ y)) (w.counts ++ (w.planes ++ z)) refl p.headed.room w.headed.room p.headed.spelled w.headed.spelled
+    (sym (whole_joined p.head p.counts p.planes a y p.joined) ∙ e ∙ whole_joined w.head w.counts w.planes b z w.joined) in
+    let planes_size : length p.planes ≡ length w.planes = cc agree.0 in
+    let counts_size : length p.counts ≡ length w.counts = cc agree.0 in
+    let cut1 = append_cut p.counts w.counts (p.planes ++ y) (w.planes ++ z) counts_size agree.1 in
+    (append_cut p.planes w.planes y z planes_size cut1.1).1
 
--- Results
-
-pub on_ok_map : {T E : Type 0} (r : Result T E) (A B : Type 0) → (A → B) → OnOk r A → OnOk r B
-on_ok_map (Ok x) A B f p = f p
-on_ok_map (Err e) A B f p = tt
-
-pub if_err_map : {T E : Type 0} (r : Result T E) (A B : E → Type 0) → ((e : E) → A e → B e) → IfErr r A → IfErr r B
-if_err_map (Ok x) A B f p = tt
-if_err_map (Err e) A B f p = f e p
+pub refusal_of_parts : (long : Bool) (number : ℕ) (known : List (ℕ × ℕ)) (planes counts : ℕ) (bytes rest : List ℕ) (f : PrecinctFault) → (BeginWithPacket long known bytes → BeginWithParts known counts planes rest)
+    → IsPartsRefusal number known counts planes rest f → IsPacketRefusal long number known bytes f
+refusal_of_parts long number known planes counts bytes rest (fault.Overrun packet part) move none = (none.0, λ p. none.1 (move p))
+refusal_of_parts long number known planes counts bytes rest (fault.Count packet value) move none = (none.0, λ p. none.1 (move p))
+refusal_of_parts long number known planes counts bytes rest (fault.Unbuilt packet) move none = absurd none
+refusal_of_parts long number known planes counts bytes rest fault.Truncated move none = none
+refusal_of_parts long number known planes counts bytes rest fault.Memory move none = tt
 
 -- what is left of a list past n entries
 pub rest_is : (n k : ℕ) (bytes : List ℕ) → n ≡ k → take (length bytes - n) (drop n bytes) ≡ drop k bytes

@@ -1,6 +1,5 @@
--- A precinct: its header, and the packet after it.
+-- A precinct: its header, and the packets after it.
 use Rattle.std.proofs.Common.{◌≡◌, ℕ, zero, suc, ◌+◌, ◌*◌, ◌<◌, ◌≤◌, ◌^◌, List, [], ◌∷◌, ◌++◌, map, take, drop, length, refl, sym, ap, subst, ◌∙◌, arith, append_assoc, length-append, length-take-le, length-drop}
-use Rattle.std.specs.Prelude.{Bool, true, false}
 use Rattle.std.specs.List.{flat_map}
 use Rattle.std.proofs.lemmas.List.{take-append-drop, take_at, drop-append-le}
 use Rattle.std.proofs.Math.Seq.{drop-append-add, take-add}
@@ -9,23 +8,16 @@ use Rattle.xs_lists.specs.Packing.{number_of}
 use Rattle.xs_lists.specs.Spelling.{upto, SpellsPadded}
 use Rattle.xs_lists.proofs.Bits.{length-bits_of, length-bits_of_bytes}
 use Rattle.xs_lists.proofs.Cut.{append_cut, padded_agrees}
-use Rattle.xs_layout.specs.declared.Quant.{Quant}
 use Rattle.xs_params.specs.declared.header.Header.{Header}
 use Rattle.xs_grammar.specs.Geometry.{bands_of}
-use Rattle.std.proofs.Common.{◌⊎◌, inl, inr}
+use Rattle.std.proofs.Common.{inl, inr}
 use Rattle.std.proofs.lemmas.List.FromFn.{length-range_with_len}
-use Rattle.xs_layout.specs.Geometry.{groups_of}
-use Rattle.xs_layout.specs.Weighting.{truncation_of}
-use Rattle.xs_grammar.specs.Geometry.{band_width_of}
-use Rattle.xs_grammar.specs.Precinct.{weight_of}
-use Rattle.xs_faults.specs.declared.PrecinctFault.{PrecinctFault}
-use Rattle.xs_faults.specs.declared.PrecinctFault.TheVariants as fault
-use Rattle.xs_decoding.specs.Built.{precinct_head_size, mode_at, stated_size, IsUnbuilt, IsWholePrecinct, HasMode, HasRawCounts}
-use Rattle.xs_read_lines.specs.ReadLine.{Buffered, ReadLine}
-use Rattle.xs_slice_read.specs.Packet.{known_of, known_line, head_bytes, HoldLines, HasRawHead, BeginWithPacket, IsPacketRead, IsPacketRefusal}
-use Rattle.xs_slice_read.specs.Precinct.{plain_fields, band_groups, known_lines, HasModeAmong, BeginWithPrecinct, IsPrecinctRead, IsPrecinctRefusal}
+use Rattle.xs_grammar.specs.Geometry.{packets_of}
+use Rattle.xs_geometry.specs.SliceLines.{BandLines}
+use Rattle.xs_decoding.specs.Built.{precinct_head_size, mode_at, q_at, r_at, stated_size, IsUnbuilt, IsWholePrecinct}
+use Rattle.xs_slice_read.specs.Precinct.{plain_fields, ArePacketsRead, BeginWithPackets, HasModeAmong, BeginWithPrecinct, IsPrecinctRead}
 use Rattle.xs_slice_read.proofs.Heads.{bits_of_bytes-append}
-use Rattle.xs_slice_read.proofs.PrecinctHeads.{number_of_bits, zeros_of, length-zeros, zeros_fields}
+use Rattle.xs_slice_read.proofs.PrecinctHeads.{number_of_bits, field_at, zeros_of, length-zeros, zeros_fields}
 
 -- Windows of lists
 
@@ -52,14 +44,11 @@ stated_front n bytes enough h = ap number_of (front_window 24 0 n bytes enough (
 pub mode_front : (n band : ℕ) (bytes : List ℕ) → n ≤ length bytes → 42 + 2 * band ≤ 8 * n → mode_at (take n bytes) band ≡ mode_at bytes band
 mode_front n band bytes enough h = ap number_of (front_window 2 (40 + 2 * band) n bytes enough (omega (arith, h)))
 
--- the first bit after a front
-pub bit_after : (n m : ℕ) (bytes : List ℕ) → n ≤ length bytes → 1 ≤ m → m ≤ length (drop n bytes) → take 1 (bits_of_bytes (take m (drop n bytes))) ≡ take 1 (drop (8 * n) (bits_of_bytes bytes))
-bit_after n m bytes enough some room =
-    let whole : bits_of_bytes bytes ≡ bits_of_bytes (take n bytes) ++ bits_of_bytes (drop n bytes) = ap bits_of_bytes (sym (take-append-drop n bytes)) ∙ bits_of_bytes-append (take n bytes) (drop n bytes) in
-    let size : length (bits_of_bytes (take n bytes)) + 0 ≡ 8 * n = omega (arith, length-bits_of_bytes (take n bytes), length-take-le n bytes enough) in
-    front_window 1 0 m (drop n bytes) room (omega (arith, some))
-    ∙ sym (ap (λ l. take 1 (drop (8 * n) l)) whole ∙ ap (λ k. take 1 (drop k (bits_of_bytes (take n bytes) ++ bits_of_bytes (drop n bytes)))) (sym size)
-    ∙ ap (take 1) (drop-append-add (bits_of_bytes (take n bytes)) (bits_of_bytes (drop n bytes)) 0))
+pub q_front : (n : ℕ) (bytes : List ℕ) → n ≤ length bytes → 5 ≤ n → q_at (take n bytes) ≡ q_at bytes
+q_front n bytes enough h = ap number_of (front_window 8 24 n bytes enough (omega (arith, h)))
+
+pub r_front : (n : ℕ) (bytes : List ℕ) → n ≤ length bytes → 5 ≤ n → r_at (take n bytes) ≡ r_at bytes
+r_front n bytes enough h = ap number_of (front_window 8 32 n bytes enough (omega (arith, h)))
 
 -- Headers
 
@@ -86,6 +75,21 @@ head_states bands size q r head rest small p =
     let whole : bits_of_bytes (head ++ rest) ≡ bits_of 24 size ++ (more ++ (p.begin.0 ++ bits_of_bytes rest)) =
     bits_of_bytes-append head rest ∙ ap (λ l. l ++ bits_of_bytes rest) p.begin.1 ∙ append_assoc (bits_of 24 size ++ more) p.begin.0 (bits_of_bytes rest) ∙ append_assoc (bits_of 24 size) more (p.begin.0 ++ bits_of_bytes rest) in
     ap number_of (ap (take 24) whole ∙ take_at (bits_of 24 size) (more ++ (p.begin.0 ++ bits_of_bytes rest)) 24 (length-bits_of 24 size)) ∙ number_of_bits 24 size small
+
+-- the quantisation and the refinement that it says
+pub plain_q : (bands size q r : ℕ) (head : List ℕ) → q < 2 ^ 8 → SpellsPadded head (bits_of_fields (plain_fields bands size q r)) → q_at head ≡ q
+plain_q bands size q r head small p =
+    let fields = bits_of_fields (map (λ _. (2, 0)) (upto bands)) in
+    field_at 8 q 24 (bits_of_bytes head) (bits_of 24 size) ((bits_of 8 r ++ fields) ++ p.begin.0) small (length-bits_of 24 size)
+    (p.begin.1 ∙ append_assoc (bits_of 24 size) (bits_of 8 q ++ (bits_of 8 r ++ fields)) p.begin.0 ∙ ap (λ l. bits_of 24 size ++ l) (append_assoc (bits_of 8 q) (bits_of 8 r ++ fields) p.begin.0))
+
+pub plain_r : (bands size q r : ℕ) (head : List ℕ) → r < 2 ^ 8 → SpellsPadded head (bits_of_fields (plain_fields bands size q r)) → r_at head ≡ r
+plain_r bands size q r head small p =
+    let fields = bits_of_fields (map (λ _. (2, 0)) (upto bands)) in
+    let count : length (bits_of 24 size ++ bits_of 8 q) ≡ 32 = omega (arith, length-append (bits_of 24 size) (bits_of 8 q), length-bits_of 24 size, length-bits_of 8 q) in
+    field_at 8 r 32 (bits_of_bytes head) (bits_of 24 size ++ bits_of 8 q) (fields ++ p.begin.0) small count
+    (p.begin.1 ∙ append_assoc (bits_of 24 size) (bits_of 8 q ++ (bits_of 8 r ++ fields)) p.begin.0 ∙ ap (λ l. bits_of 24 size ++ l) (append_assoc (bits_of 8 q) (bits_of 8 r ++ fields) p.begin.0)
+    ∙ sym (append_assoc (bits_of 24 size) (bits_of 8 q) ((bits_of 8 r ++ fields) ++ p.begin.0)) ∙ ap (λ l. (bits_of 24 size ++ bits_of 8 q) ++ l) (append_assoc (bits_of 8 r) fields p.begin.0))
 
 zero_mode : (band : ℕ) (xs pad : List ℕ) → band < length xs → number_of (take 2 (drop (2 * band) (flat_map (λ _. bits_of 2 0) xs ++ pad))) ≡ 0
 zero_mode band [] pad h = absurd (omega (arith, h))
@@ -122,18 +126,18 @@ fields_room bands size q r a b c = (a, (b, (c, go (upto bands))))
 
 -- Refusals
 
-pub cut_head : (h : Header) (bytes : List ℕ) → length bytes < precinct_head_size h → BeginWithPrecinct h bytes → ⊥
-cut_head h bytes short p =
+pub cut_head : (h : Header) (precinct : ℕ) (bytes : List ℕ) → length bytes < precinct_head_size h → BeginWithPrecinct h precinct bytes → ⊥
+cut_head h precinct bytes short p =
     omega (arith, short, head_length (bands_of h) (length p.body) p.q p.r p.head p.headed, ap length p.joined, length-append p.head (p.body ++ p.rest))
 
-pub cut_body : (h : Header) (bytes : List ℕ) (size : ℕ) → size ≡ stated_size bytes → length bytes < precinct_head_size h + size → BeginWithPrecinct h bytes → ⊥
-cut_body h bytes size said short p =
+pub cut_body : (h : Header) (precinct : ℕ) (bytes : List ℕ) (size : ℕ) → size ≡ stated_size bytes → length bytes < precinct_head_size h + size → BeginWithPrecinct h precinct bytes → ⊥
+cut_body h precinct bytes size said short p =
     let states = head_states (bands_of h) (length p.body) p.q p.r p.head (p.body ++ p.rest) p.room.0 p.headed in
     let same : size ≡ length p.body = said ∙ ap stated_size p.joined ∙ states in
     omega (arith, short, same, head_length (bands_of h) (length p.body) p.q p.r p.head p.headed, ap length p.joined, length-append p.head (p.body ++ p.rest), length-append p.body p.rest)
 
-pub not_whole : (h : Header) (bytes : List ℕ) (packet : ℕ) → length bytes < precinct_head_size h + stated_size bytes → IsUnbuilt h bytes packet → ⊥
-not_whole h bytes packet short p = omega (arith, short, p.whole.body)
+pub not_whole : (h : Header) (precinct : ℕ) (bytes : List ℕ) (packet : ℕ) → length bytes < precinct_head_size h + stated_size bytes → IsUnbuilt h precinct bytes packet → ⊥
+not_whole h precinct bytes packet short p = omega (arith, short, p.whole.body)
 
 pub whole_precinct : (h : Header) (bytes : List ℕ) (size : ℕ) → size ≡ stated_size bytes → precinct_head_size h + size ≤ length bytes → IsWholePrecinct h bytes
 whole_precinct h bytes size said enough = record { head = omega (arith, enough); body = subst (λ n. precinct_head_size h + n ≤ length bytes) said enough }
@@ -141,68 +145,25 @@ whole_precinct h bytes size said enough = record { head = omega (arith, enough);
 mode_room : (bands band : ℕ) → band < bands → 42 + 2 * band ≤ 8 * bytes_for (40 + 2 * bands)
 mode_room bands band inside = omega (arith, inside)
 
-pub unbuilt_mode : (h : Header) (bytes : List ℕ) (size : ℕ) → size ≡ stated_size bytes → precinct_head_size h + size ≤ length bytes → HasModeAmong (bands_of h) (take (precinct_head_size h) bytes) → IsUnbuilt h bytes 0
-unbuilt_mode h bytes size said enough found =
+-- the mode of a band stands in the header
+pub mode_there : (h : Header) (bytes : List ℕ) (band : ℕ) → precinct_head_size h ≤ length bytes → band < bands_of h → mode_at (take (precinct_head_size h) bytes) band ≡ mode_at bytes band
+mode_there h bytes band room inside = mode_front (precinct_head_size h) band bytes room (mode_room (bands_of h) band inside)
+
+-- where a mode is not 0, this is the only cause
+pub unbuilt_mode : (h : Header) (precinct : ℕ) (bytes : List ℕ) (size : ℕ) → size ≡ stated_size bytes → precinct_head_size h + size ≤ length bytes → HasModeAmong (bands_of h) (take (precinct_head_size h) bytes)
+    → IsUnbuilt h precinct bytes 0
+unbuilt_mode h precinct bytes size said enough found =
     let room : precinct_head_size h ≤ length bytes = omega (arith, enough) in
-    let same = mode_front (precinct_head_size h) found.0 bytes room (mode_room (bands_of h) found.0 found.1) in
-    record { whole = whole_precinct h bytes size said enough; first = refl; cause = inl (found.0, found.1, λ z. found.2 (same ∙ z)) }
+    record { whole = whole_precinct h bytes size said enough; cause = inl (refl, (found.0, found.1, λ z. found.2 (mode_there h bytes found.0 room found.1 ∙ z))) }
 
--- a plain header and a packet whose counts are not raw are built
-pub built_causes : (h : Header) (bytes : List ℕ) (size q r packet : ℕ) → size ≡ stated_size bytes → precinct_head_size h + size ≤ length bytes → SpellsPadded (take (precinct_head_size h) bytes) (bits_of_fields (plain_fields (bands_of h) size q r))
-    → IsUnbuilt h bytes packet → (packet ≡ 0) × HasRawHead h.long_heads (take size (drop (precinct_head_size h) bytes))
-built_causes h bytes size q r packet said enough plain p = (p.first, cases p.cause)
-  where
-    n : ℕ
-    n = precinct_head_size h
+pub mode_alone : (h : Header) (precinct : ℕ) (bytes : List ℕ) (packet : ℕ) → precinct_head_size h ≤ length bytes → HasModeAmong (bands_of h) (take (precinct_head_size h) bytes) → IsUnbuilt h precinct bytes packet → packet ≡ 0
+mode_alone h precinct bytes packet room found p = elim p.cause [ inl mode ↦ mode.0 | inr raw ↦ absurd (found.2 (mode_there h bytes found.0 room found.1 ∙ raw.modes found.0 found.1)) ]
 
-    room : n ≤ length bytes
-    room = omega (arith, enough)
-
-    after : size ≤ length (drop n bytes)
-    after = omega (arith, enough, length-drop n bytes)
-
-    some : HasRawCounts h bytes → 1 ≤ size
-    some raw = positive h.long_heads size (subst (λ k. head_bytes h.long_heads ≤ k) (sym said) raw.within)
-      where
-        positive : (long : Bool) (k : ℕ) → head_bytes long ≤ k → 1 ≤ k
-        positive true k h = omega (arith, h)
-        positive false k h = omega (arith, h)
-
-    cases : HasMode h bytes ⊎ HasRawCounts h bytes → HasRawHead h.long_heads (take size (drop n bytes))
-    cases (inl mode) =
-        let zero = plain_modes (bands_of h) size q r mode.0 (take n bytes) plain mode.1 in
-        let same = mode_front n mode.0 bytes room (mode_room (bands_of h) mode.0 mode.1) in
-        absurd (mode.2 (sym same ∙ zero))
-    cases (inr raw) = record {
-      whole = subst (λ k. head_bytes h.long_heads ≤ k) (said' ∙ sym (length-take-le size (drop n bytes) after)) raw.within;
-      raw = bit_after n size bytes room (some raw) after ∙ raw.raw;
-    }
-      where
-        said' : stated_size bytes ≡ size
-        said' = sym said
-
-pub unbuilt_raw : (h : Header) (bytes : List ℕ) (size packet : ℕ) → size ≡ stated_size bytes → precinct_head_size h + size ≤ length bytes
-    → (packet ≡ 0) × HasRawHead h.long_heads (take size (drop (precinct_head_size h) bytes)) → IsUnbuilt h bytes packet
-unbuilt_raw h bytes size packet said enough p =
-    let n = precinct_head_size h in
-    let room : n ≤ length bytes = omega (arith, enough) in
-    let after : size ≤ length (drop n bytes) = omega (arith, enough, length-drop n bytes) in
-    let within : head_bytes h.long_heads ≤ size = subst (λ k. head_bytes h.long_heads ≤ k) (length-take-le size (drop n bytes) after) p.1.whole in
-    record {
-      whole = whole_precinct h bytes size said enough;
-      first = p.0;
-      cause = inr (record { within = subst (λ k. head_bytes h.long_heads ≤ k) said within; raw = sym (bit_after n size bytes room (positive h.long_heads size within) after) ∙ p.1.raw });
-    }
-  where
-    positive : (long : Bool) (k : ℕ) → head_bytes long ≤ k → 1 ≤ k
-    positive true k h = omega (arith, h)
-    positive false k h = omega (arith, h)
-
--- a precinct that begins the bytes has the packet that its header says
-pub packet_of_precinct : (h : Header) (bytes : List ℕ) (size q r : ℕ) → size < 2 ^ 24 → q < 2 ^ 8 → r < 2 ^ 8 → precinct_head_size h + size ≤ length bytes
-    → SpellsPadded (take (precinct_head_size h) bytes) (bits_of_fields (plain_fields (bands_of h) size q r)) → BeginWithPrecinct h bytes
-    → BeginWithPacket h.long_heads (known_lines h q r) (take size (drop (precinct_head_size h) bytes))
-packet_of_precinct h bytes size q r s-small q-small r-small enough plain p =
+-- a precinct that begins the bytes has the packets that its header says
+pub packets_of_precinct : (h : Header) (precinct : ℕ) (bytes : List ℕ) (size q r : ℕ) → size < 2 ^ 24 → q < 2 ^ 8 → r < 2 ^ 8 → precinct_head_size h + size ≤ length bytes
+    → SpellsPadded (take (precinct_head_size h) bytes) (bits_of_fields (plain_fields (bands_of h) size q r)) → BeginWithPrecinct h precinct bytes
+    → BeginWithPackets h q r (packets_of h precinct) (take size (drop (precinct_head_size h) bytes))
+packets_of_precinct h precinct bytes size q r s-small q-small r-small enough plain p =
     let n = precinct_head_size h in
     let agree = padded_agrees (take n bytes) p.head (plain_fields (bands_of h) size q r) (plain_fields (bands_of h) (length p.body) p.q p.r) (drop n bytes) (p.body ++ p.rest) refl
     (fields_room (bands_of h) size q r s-small q-small r-small) p.room plain p.headed (take-append-drop n bytes ∙ p.joined) in
@@ -211,61 +172,33 @@ packet_of_precinct h bytes size q r s-small q-small r-small enough plain p =
     let same_r : r ≡ p.r = cc agree.0 in
     let after : size ≤ length (drop n bytes) = omega (arith, enough, length-drop n bytes) in
     let cut = append_cut (take size (drop n bytes)) p.body (drop size (drop n bytes)) p.rest (length-take-le size (drop n bytes) after ∙ same_size) (take-append-drop size (drop n bytes) ∙ agree.1) in
-    subst (λ l. BeginWithPacket h.long_heads (known_lines h q r) l) (sym cut.0)
-    (subst (λ k. BeginWithPacket h.long_heads k p.body) (ap (λ x. known_lines h x p.r) (sym same_q) ∙ ap (λ x. known_lines h q x) (sym same_r)) p.packet)
-
-pub refusal_of_packet : (h : Header) (bytes : List ℕ) (size q r : ℕ) (f : PrecinctFault) → size ≡ stated_size bytes → precinct_head_size h + size ≤ length bytes
-    → (BeginWithPrecinct h bytes → BeginWithPacket h.long_heads (known_lines h q r) (take size (drop (precinct_head_size h) bytes)))
-    → IsPacketRefusal h.long_heads (known_lines h q r) (take size (drop (precinct_head_size h) bytes)) f → IsPrecinctRefusal h bytes f
-refusal_of_packet h bytes size q r (fault.Overrun packet part) said enough move none = λ p. none (move p)
-refusal_of_packet h bytes size q r (fault.Count packet value) said enough move none = λ p. none (move p)
-refusal_of_packet h bytes size q r (fault.Unbuilt packet) said enough move none = unbuilt_raw h bytes size packet said enough none
-refusal_of_packet h bytes size q r fault.Truncated said enough move none = absurd none
-refusal_of_packet h bytes size q r fault.Memory said enough move none = tt
+    subst (BeginWithPackets h q r (packets_of h precinct)) (sym cut.0)
+    (subst (λ x. BeginWithPackets h x r (packets_of h precinct) p.body) (sym same_q) (subst (λ x. BeginWithPackets h p.q x (packets_of h precinct) p.body) (sym same_r) p.packets))
 
 -- What is read
 
-held_known : (kind : Quant) (bands : List Buffered) (lines : List ReadLine) → HoldLines kind bands lines → map known_line lines ≡ map known_of bands
-held_known kind [] [] p = refl
-held_known kind [] (l ∷ ls) p = absurd p
-held_known kind (b ∷ bs) [] p = absurd p
-held_known kind (b ∷ bs) (l ∷ ls) p =
-    let first : known_line l ≡ known_of b = ap (λ g. (g, l.truncation)) p.0.groups ∙ ap (λ t. (b.groups, t)) (sym p.0.truncation) in
-    ap (λ x. x ∷ map known_line ls) first ∙ ap (λ l'. known_of b ∷ l') (held_known kind bs ls p.1)
-
-pub precinct_read : (h : Header) (bands : List Buffered) (bytes : List ℕ) (size q r : ℕ) → size < 2 ^ 24 → q < 2 ^ 8 → r < 2 ^ 8 → precinct_head_size h + size ≤ length bytes
-    → SpellsPadded (take (precinct_head_size h) bytes) (bits_of_fields (plain_fields (bands_of h) size q r)) → map known_of bands ≡ known_lines h q r
-    → IsPacketRead h.long_heads h.quant bands (take size (drop (precinct_head_size h) bytes)) → IsPrecinctRead h bands bytes (precinct_head_size h + size)
-precinct_read h bands bytes size q r s-small q-small r-small enough plain known read =
+pub precinct_read : (h : Header) (precinct : ℕ) (old new : List BandLines) (bytes : List ℕ) (size q r : ℕ) → size < 2 ^ 24 → q < 2 ^ 8 → r < 2 ^ 8 → precinct_head_size h + size ≤ length bytes
+    → SpellsPadded (take (precinct_head_size h) bytes) (bits_of_fields (plain_fields (bands_of h) size q r)) → ArePacketsRead h q r (packets_of h precinct) old new (take size (drop (precinct_head_size h) bytes))
+    → IsPrecinctRead h precinct old new bytes (precinct_head_size h + size)
+precinct_read h precinct old new bytes size q r s-small q-small r-small enough plain read =
     let n = precinct_head_size h in
     let after : size ≤ length (drop n bytes) = omega (arith, enough, length-drop n bytes) in
-    let count : size ≡ length (read.part ++ read.rest) = sym (length-take-le size (drop n bytes) after) ∙ ap length read.joined in
+    let count : size ≡ length (read.spelled.0 ++ read.spelled.1) = sym (length-take-le size (drop n bytes) after) ∙ ap length read.spelled.2 in
     record {
       q = q;
       r = r;
-      lines = read.lines;
+      packets = read.packets;
       held = read.held;
       enough = enough;
-      precinct = record {
+      spelled = record {
         head = take n bytes;
-        packet = read.part;
-        filler = read.rest;
-        joined = take-add n size bytes ∙ ap (λ l. take n bytes ++ l) read.joined;
+        body = read.spelled.0;
+        filler = read.spelled.1;
+        joined = take-add n size bytes ∙ ap (λ l. take n bytes ++ l) read.spelled.2;
         room = subst (λ k. HaveRoom (plain_fields (bands_of h) k q r)) count (fields_room (bands_of h) size q r s-small q-small r-small);
         headed = subst (λ k. SpellsPadded (take n bytes) (bits_of_fields (plain_fields (bands_of h) k q r))) count plain;
-        known = held_known h.quant bands read.lines read.held ∙ known;
-        spelled = read.packet;
+        order = read.order;
+        spelled = read.spelled.3;
       };
+      elsewhere = read.elsewhere;
     }
-
--- the code groups of bands of which more is known
-pub groups_known : (h : Header) (q r : ℕ) (bands : List Buffered) → map known_of bands ≡ known_lines h q r → map (λ (band : Buffered). band.groups) bands ≡ band_groups h
-groups_known h q r bands e = firsts bands ∙ ap (map (λ (k : ℕ × ℕ). k.0)) e ∙ seconds (upto (bands_of h))
-  where
-    firsts : (bands : List Buffered) → map (λ (band : Buffered). band.groups) bands ≡ map (λ (k : ℕ × ℕ). k.0) (map known_of bands)
-    firsts [] = refl
-    firsts (b ∷ bs) = ap (λ l. b.groups ∷ l) (firsts bs)
-
-    seconds : (xs : List ℕ) → map (λ (k : ℕ × ℕ). k.0) (map (λ band. (groups_of (band_width_of h band), truncation_of q r (weight_of h band))) xs) ≡ map (λ band. groups_of (band_width_of h band)) xs
-    seconds [] = refl
-    seconds (x ∷ xs) = ap (λ l. groups_of (band_width_of h x) ∷ l) (seconds xs)

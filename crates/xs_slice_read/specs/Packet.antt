@@ -74,14 +74,12 @@ pub record IsPacketOf (long : Bool) (lines : List ReadLine) (bytes : List ℕ) :
   pub headed : IsPacketHead long (length planes) (length counts) head
   pub parts : ArePartsOf lines counts planes
 
--- a front of the bytes is a packet whose lines the buffers hold
-pub record IsPacketRead (long : Bool) (kind : Quant) (bands : List Buffered) (bytes : List ℕ) : Type 0 where
+-- the first n bytes are a packet whose lines the buffers hold
+pub record IsPacketRead (long : Bool) (kind : Quant) (bands : List Buffered) (bytes : List ℕ) (n : ℕ) : Type 0 where
   pub lines : List ReadLine
   pub held : HoldLines kind bands lines
-  pub part : List ℕ
-  pub rest : List ℕ
-  pub joined : bytes ≡ part ++ rest
-  pub packet : IsPacketOf long lines part
+  pub enough : n ≤ length bytes
+  pub packet : IsPacketOf long lines (take n bytes)
 
 -- a front of the bytes, with parts of these sizes, is counts and data of lines that the buffers hold
 pub record ArePartsRead (kind : Quant) (counts planes : ℕ) (bands : List Buffered) (bytes : List ℕ) : Type 0 where
@@ -125,13 +123,13 @@ pub record HasRawHead (long : Bool) (bytes : List ℕ) : Type 0 where
   pub whole : head_bytes long ≤ length bytes
   pub raw : take 1 (bits_of_bytes bytes) ≡ 1 ∷ []
 
--- why a packet is refused; want of memory is free
-abbrev pub IsPartsRefusal : List (ℕ × ℕ) → ℕ → ℕ → List ℕ → PrecinctFault → Type 0
-IsPartsRefusal known counts planes bytes (fault.Overrun packet part) = BeginWithParts known counts planes bytes → ⊥
-IsPartsRefusal known counts planes bytes (fault.Count packet value) = BeginWithParts known counts planes bytes → ⊥
-IsPartsRefusal known counts planes bytes (fault.Unbuilt packet) = ⊥
-IsPartsRefusal known counts planes bytes fault.Truncated = ⊥
-IsPartsRefusal known counts planes bytes fault.Memory = ⊤
+-- why the packet of a number is refused, whose header is there; want of memory is free
+abbrev pub IsPartsRefusal : ℕ → List (ℕ × ℕ) → ℕ → ℕ → List ℕ → PrecinctFault → Type 0
+IsPartsRefusal number known counts planes bytes (fault.Overrun packet part) = (packet ≡ number) × (BeginWithParts known counts planes bytes → ⊥)
+IsPartsRefusal number known counts planes bytes (fault.Count packet value) = (packet ≡ number) × (BeginWithParts known counts planes bytes → ⊥)
+IsPartsRefusal number known counts planes bytes (fault.Unbuilt packet) = ⊥
+IsPartsRefusal number known counts planes bytes fault.Truncated = ⊥
+IsPartsRefusal number known counts planes bytes fault.Memory = ⊤
 
 -- why the packet of a number is refused
 abbrev pub IsPacketRefusal : Bool → ℕ → List (ℕ × ℕ) → List ℕ → PrecinctFault → Type 0

@@ -1,20 +1,20 @@
 -- A precinct as it is read, packet by packet: 'Slice, precinct and packet'.
-use Rattle.std.specs.Prelude.{◌≡◌, ◌≢◌, ℕ, ◌≤◌, ◌<◌, ⊤, ℤ, List, [], ◌∷◌, ◌++◌, length, map, take}
+use Rattle.std.specs.Prelude.{◌≡◌, ◌≢◌, ℕ, zero, suc, ◌*◌, ◌≤◌, ◌<◌, ⊤, ℤ, List, [], ◌∷◌, ◌++◌, length, map, take, drop}
 use Rattle.std.specs.List.{AllByRecursion, Contains}
 use Rattle.xs_lists.specs.Bits.{bits_of_fields, HaveRoom}
-use Rattle.xs_lists.specs.Spelling.{upto, SpellsEach, SpellsPadded}
+use Rattle.xs_lists.specs.Spelling.{upto, BeginsAs, SpellsEach, SpellsPadded}
 use Rattle.xs_layout.specs.declared.Quant.{Quant}
-use Rattle.xs_layout.specs.Geometry.{groups_of, PacketPlace}
+use Rattle.xs_layout.specs.Geometry.{components_of, groups_of, PacketPlace}
 use Rattle.xs_layout.specs.Weighting.{truncation_of}
 use Rattle.xs_params.specs.declared.header.Header.{Header}
 use Rattle.xs_faults.specs.declared.PrecinctFault.{PrecinctFault}
 use Rattle.xs_faults.specs.declared.PrecinctFault.TheVariants as fault
 use Rattle.xs_grammar.specs.Geometry.{bands_of, band_width_of, packet_bands, packets_of}
-use Rattle.xs_geometry.specs.SliceLines.{BandLines, row_at}
+use Rattle.xs_geometry.specs.SliceLines.{BandLines, HasLine, row_at}
 use Rattle.xs_grammar.specs.Precinct.{weight_of}
 use Rattle.xs_decoding.specs.Built.{mode_at, IsUnbuilt}
-use Rattle.xs_read_lines.specs.ReadLine.{AreValuesOf, ReadLine}
-use Rattle.xs_slice_read.specs.Packet.{known_line, IsPacketOf, IsWholePacket}
+use Rattle.xs_read_lines.specs.ReadLine.{AreValuesOf, Buffered, ReadLine}
+use Rattle.xs_slice_read.specs.Packet.{known_line, HasRawHead, IsPacketOf, IsWholePacket}
 
 -- the fields of the header of a precinct of so many bands whose modes are 0
 abbrev pub plain_fields : ℕ → ℕ → ℕ → ℕ → List (ℕ × ℕ)
@@ -24,7 +24,11 @@ plain_fields bands size q r = (24, size) ∷ (8, q) ∷ (8, r) ∷ map (λ _. (2
 abbrev pub band_groups : Header → List ℕ
 band_groups h = map (λ band. groups_of (band_width_of h band)) (upto (bands_of h))
 
--- what is known of a packet's lines by the header of the precinct
+-- what is known of each band's line by the header of a precinct
+abbrev pub known_bands : Header → ℕ → ℕ → List (ℕ × ℕ)
+known_bands h q r = map (λ band. (groups_of (band_width_of h band), truncation_of q r (weight_of h band))) (upto (bands_of h))
+
+-- what is known of a packet's lines
 abbrev pub known_lines : Header → ℕ → ℕ → PacketPlace → List (ℕ × ℕ)
 known_lines h q r place = map (λ band. (groups_of (band_width_of h band), truncation_of q r (weight_of h band))) (packet_bands h place)
 
@@ -81,14 +85,71 @@ pub record IsPrecinctRead (h : Header) (precinct : ℕ) (old new : List BandLine
   pub packets : List ReadPacket
   pub held : AllByRecursion (HoldsPacket h new) packets
   pub enough : n ≤ length bytes
-  pub precinct : IsPrecinctOf h precinct q r packets (take n bytes)
-  pub elsewhere : (band line : ℕ) → (IsLineAmong h (packets_of h precinct) band line → ⊥) → row_at new band line ≡ row_at old band line
+  pub spelled : IsPrecinctOf h precinct q r packets (take n bytes)
+  pub elsewhere : (band line : ℕ) → HasLine old band line → (IsLineAmong h (packets_of h precinct) band line → ⊥) → row_at new band line ≡ row_at old band line
+
+-- a band's line is a packet's
+abbrev pub IsLineIn : Header → PacketPlace → ℕ → ℕ → Type 0
+IsLineIn h place band line = Contains (packet_bands h place) band × (place.line ≡ line)
+
+-- what a list of all bands has for those of a packet
+abbrev pub part_of : {A : Type 0} → Header → PacketPlace → List A → List A
+part_of h place bands = take (place.types * components_of h.shape.format) (drop (place.first_type * components_of h.shape.format) bands)
+
+-- an empty buffer
+abbrev pub no_band : Buffered
+no_band = record { groups = 0; truncation = 0; counts = []; values = [] }
+
+-- the first n bytes are a packet of lines of which this is known; the rows hold them, and all other rows are as they were
+pub record IsPacketPut (h : Header) (place : PacketPlace) (known : List (ℕ × ℕ)) (old new : List BandLines) (bytes : List ℕ) (n : ℕ) : Type 0 where
+  pub lines : List ReadLine
+  pub known_lines : map known_line lines ≡ known
+  pub held : HoldRows h.quant new place.line (packet_bands h place) lines
+  pub enough : n ≤ length bytes
+  pub packet : IsPacketOf h.long_heads lines (take n bytes)
+  pub elsewhere : (band line : ℕ) → HasLine old band line → (IsLineIn h place band line → ⊥) → row_at new band line ≡ row_at old band line
+
+-- packets of these places begin the bytes; the rows hold them, and all other rows are as they were
+pub record ArePacketsRead (h : Header) (q r : ℕ) (places : List PacketPlace) (old new : List BandLines) (bytes : List ℕ) : Type 0 where
+  pub packets : List ReadPacket
+  pub order : places_of packets ≡ places
+  pub held : AllByRecursion (HoldsPacket h new) packets
+  pub spelled : BeginsAs (SpellsEach (IsReadPacket h q r) packets) bytes
+  pub elsewhere : (band line : ℕ) → HasLine old band line → (IsLineAmong h places band line → ⊥) → row_at new band line ≡ row_at old band line
 
 -- A packet begins the bytes, or would but for its numbers. So do packets: the numbers of none of them are looked at.
 abbrev pub BeginWithPackets : Header → ℕ → ℕ → List PacketPlace → List ℕ → Type 0
 BeginWithPackets h q r [] bytes = ⊤
 BeginWithPackets h q r (place ∷ places) bytes =
     (part : List ℕ) × (rest : List ℕ) × (bytes ≡ part ++ rest) × IsWholePacket h.long_heads (known_lines h q r place) part × BeginWithPackets h q r places rest
+
+-- after so many packets the header of one more says that its counts are raw
+abbrev pub HasRawAfter : Header → ℕ → ℕ → List PacketPlace → ℕ → List ℕ → Type 0
+HasRawAfter h q r [] packet bytes = ⊥
+HasRawAfter h q r (place ∷ places) zero bytes = HasRawHead h.long_heads bytes
+HasRawAfter h q r (place ∷ places) (suc packet) bytes =
+    (part : List ℕ) × (rest : List ℕ) × (bytes ≡ part ++ rest) × IsWholePacket h.long_heads (known_lines h q r place) part × HasRawAfter h q r places packet rest
+
+-- after so many packets that were read the header of one more says so
+pub record IsRawAfter (h : Header) (q r : ℕ) (places : List PacketPlace) (packet : ℕ) (bytes : List ℕ) : Type 0 where
+  pub packets : List ReadPacket
+  pub place : PacketPlace
+  pub later : List PacketPlace
+  pub order : places ≡ places_of packets ++ (place ∷ later)
+  pub number : length packets ≡ packet
+  pub before : List ℕ
+  pub rest : List ℕ
+  pub joined : bytes ≡ before ++ rest
+  pub spelled : SpellsEach (IsReadPacket h q r) packets before
+  pub raw : HasRawHead h.long_heads rest
+
+-- why packets are refused; want of memory is free
+abbrev pub ArePacketsRefused : Header → ℕ → ℕ → List PacketPlace → List ℕ → PrecinctFault → Type 0
+ArePacketsRefused h q r places bytes (fault.Overrun packet part) = BeginWithPackets h q r places bytes → ⊥
+ArePacketsRefused h q r places bytes (fault.Count packet value) = BeginWithPackets h q r places bytes → ⊥
+ArePacketsRefused h q r places bytes (fault.Unbuilt packet) = IsRawAfter h q r places packet bytes
+ArePacketsRefused h q r places bytes fault.Truncated = ⊥
+ArePacketsRefused h q r places bytes fault.Memory = ⊤
 
 -- the packets of a precinct begin what follows its header, or would but for their numbers
 pub record BeginWithPrecinct (h : Header) (precinct : ℕ) (bytes : List ℕ) : Type 0 where

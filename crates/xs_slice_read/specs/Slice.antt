@@ -1,5 +1,5 @@
 -- A slice as it is read: its content, and the rows of coefficients that stand for it.
-use Rattle.std.specs.Prelude.{◌≡◌, ℕ, ◌<◌, ◌≤◌, ⊤, List, [], ◌∷◌, ◌++◌, length, take}
+use Rattle.std.specs.Prelude.{◌≡◌, ℕ, ◌<◌, ◌≤◌, ⊤, List, ◌∷◌, ◌++◌, length, take}
 use Rattle.xs_lists.specs.Spelling.{SpellsEach}
 use Rattle.xs_params.specs.declared.header.Header.{Header}
 use Rattle.xs_signal.specs.Lines.{entries_of}
@@ -11,13 +11,8 @@ use Rattle.xs_grammar.specs.Geometry.{bands_of, precincts_of}
 use Rattle.xs_grammar.specs.Precinct.{Content}
 use Rattle.xs_grammar.specs.Slice.{slice_head}
 use Rattle.xs_geometry.specs.SliceLines.{BandLines, row_at, first_line_of, end_line_of, AreLinesOf}
-use Rattle.xs_read_lines.specs.ReadLine.{Buffered}
 use Rattle.xs_decoding.specs.Dequantised.{dequantised_rows}
 use Rattle.xs_decoding.specs.Built.{IsBuiltPrecinct, IsBuiltSlice, IsUnbuilt}
-
--- an empty buffer
-abbrev pub no_buffer : Buffered
-no_buffer = record { groups = 0; truncation = 0; counts = []; values = [] }
 
 -- the rows of a slice are those of a content
 abbrev pub ShowSlice : Header → Content → ℕ → List BandLines → Type 0

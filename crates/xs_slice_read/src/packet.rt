@@ -118,16 +118,17 @@ fn read_numbers(kind: Quant, bytes: &[u8], bands: &mut [BandLine]) -> Result<(),
     Ok(())
 }
 
-// The one packet of a precinct is refused for a part of it.
-fn overrun(part: Part) -> PrecinctFault
-    ensures { result ≡ PrecinctFault.Overrun 0 part }
+// A packet is refused for a part of it.
+fn overrun(packet: u32, part: Part) -> PrecinctFault
+    ensures { result ≡ PrecinctFault.Overrun packet part }
 {
-    PrecinctFault::Overrun { packet: 0, part }
+    PrecinctFault::Overrun { packet, part }
 }
 
-// Reads counts and data, whose sizes the header says.
+// Reads counts and data of the packet with this number, whose sizes the header says.
 fn read_parts(
     kind: Quant,
+    number: u32,
     counts: usize,
     planes: usize,
     bytes: &[u8],
@@ -138,52 +139,59 @@ fn read_parts(
     requires planes { planes < 2 ^ 20 }
     ensures known { map known_of bands.new ≡ map known_of bands.old }
     ensures read { OnOk result (ArePartsRead kind counts planes bands.new bytes.now) }
-    ensures refused { IfErr result (IsPartsRefusal (map known_of bands.old) counts planes bytes.now) }
+    ensures refused { IfErr result (IsPartsRefusal number (map known_of bands.old) counts planes bytes.now) }
 {
     if bytes.len() < counts {
-        return Err(overrun(Part::Counts));
+        return Err(overrun(number, Part::Counts));
     }
     match read_counts(&bytes[..counts], bands) {
         Ok(()) => {}
-        Err(CountFault::Ended) => return Err(overrun(Part::Counts)),
-        Err(CountFault::Range { value }) => return Err(PrecinctFault::Count { packet: 0, value }),
+        Err(CountFault::Ended) => return Err(overrun(number, Part::Counts)),
+        Err(CountFault::Range { value }) => {
+            return Err(PrecinctFault::Count {
+                packet: number,
+                value,
+            });
+        }
         Err(CountFault::Memory) => return Err(PrecinctFault::Memory),
     }
     if bytes.len() - counts < planes {
-        return Err(overrun(Part::Data));
+        return Err(overrun(number, Part::Data));
     }
     match read_numbers(kind, &bytes[counts..counts + planes], bands) {
         Ok(()) => Ok(()),
-        Err(NumberFault::Ended) => Err(overrun(Part::Data)),
+        Err(NumberFault::Ended) => Err(overrun(number, Part::Data)),
         Err(NumberFault::Memory) => Err(PrecinctFault::Memory),
     }
 }
 
-/// Reads a packet of these bands' lines from the front of the bytes, which are what is left of a precinct.
+/// Reads a packet of these bands' lines from the front of the bytes, which are what is left of a precinct. The answer is the
+/// number of its bytes. A fault names the number that the packet has.
 pub fn read_packet(
     kind: Quant,
     long: bool,
+    number: u32,
     bytes: &[u8],
     bands: &mut [BandLine],
-) -> Result<(), PrecinctFault>
+) -> Result<usize, PrecinctFault>
     requires few { length bytes.now < 2 ^ 24 }
     ensures known { map known_of bands.new ≡ map known_of bands.old }
-    ensures read { OnOk result (IsPacketRead long kind bands.new bytes.now) }
-    ensures refused { IfErr result (IsPacketRefusal long (map known_of bands.old) bytes.now) }
-    ensures raw { HasRawHead long bytes.now → result ≡ Err (PrecinctFault.Unbuilt 0) }
+    ensures read { IfOk result (λ size. IsPacketRead long kind bands.new bytes.now size) }
+    ensures refused { IfErr result (IsPacketRefusal long number (map known_of bands.old) bytes.now) }
+    ensures raw { HasRawHead long bytes.now → result ≡ Err (PrecinctFault.Unbuilt number) }
 {
     let head = match read_head(bytes, long) {
         Ok(head) => head,
-        Err(Ended) => return Err(overrun(Part::Head)),
+        Err(Ended) => return Err(overrun(number, Part::Head)),
     };
     if head.raw {
-        return Err(PrecinctFault::Unbuilt { packet: 0 });
+        return Err(PrecinctFault::Unbuilt { packet: number });
     }
-    read_parts(
-        kind,
-        head.counts as usize,
-        head.planes as usize,
-        &bytes[head_size(long)..],
-        bands,
-    )
+    let counts = head.counts as usize;
+    let planes = head.planes as usize;
+    let first = head_size(long);
+    match read_parts(kind, number, counts, planes, &bytes[first..], bands) {
+        Ok(()) => Ok(first + counts + planes),
+        Err(fault) => Err(fault),
+    }
 }

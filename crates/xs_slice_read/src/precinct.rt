@@ -1,20 +1,26 @@
-//! A precinct, which has one packet yet: a line of each band.
-ghost use Rattle.std.specs.Prelude.{◌≡◌, ◌≢◌, ℕ, ◌+◌, ◌*◌, ◌/◌, ◌<◌, ◌≤◌, ◌^◌, ◌++◌, true, false, length, map, take, drop, IfOk, IfErr, OnOk, OnErr, Err};
-ghost use Rattle.std.specs.List.{flat_map};
+//! A precinct: its header, and its packets.
+ghost use Rattle.std.specs.Prelude.{◌≡◌, ◌≢◌, ◌⊎◌, ℕ, ◌+◌, ◌*◌, ◌/◌, ◌<◌, ◌≤◌, ◌^◌, ◌++◌, ◌↔◌, true, false, length, map, take, drop, slice_index_or, IfOk, IfErr, OnOk, OnErr, Err};
+ghost use Rattle.std.specs.List.{flat_map, Contains};
 ghost use Rattle.xs_bits.specs.Reading.{left};
 ghost use Rattle.xs_lists.specs.Bits.{bits_of, bits_of_bytes, bits_of_fields, bytes_for, HaveRoom};
 ghost use Rattle.xs_lists.specs.Packing.{number_of};
 ghost use Rattle.xs_lists.specs.Spelling.{upto, SpellsPadded};
-ghost use Rattle.xs_grammar.specs.Geometry.{bands_of};
-ghost use Rattle.xs_decoding.specs.Built.{IsUnbuilt, stated_size};
-ghost use Rattle.xs_slice_read.specs.Packet.{known_of};
-ghost use Rattle.xs_slice_read.specs.Precinct.{HasModeAmong, IsPrecinctRead, IsPrecinctRefusal, band_groups, known_lines, plain_fields};
+ghost use Rattle.xs_params.specs.declared.header.Header.{Header};
+ghost use Rattle.xs_grammar.specs.Geometry.{bands_of, packet_bands, packets_of, precinct_count, precincts_of};
+ghost use Rattle.xs_grammar.specs.Header.{IsAccepted};
+ghost use Rattle.xs_geometry.specs.Kept.{geometry_of};
+ghost use Rattle.xs_geometry.specs.Places.{HasBands, place_of};
+ghost use Rattle.xs_geometry.specs.SliceLines.{AreLinesOf, HasLine, row_at};
+ghost use Rattle.xs_layout.specs.Geometry.{components_of};
+ghost use Rattle.xs_decoding.specs.Built.{HasBuiltValues, IsUnbuilt, stated_size};
+ghost use Rattle.xs_slice_read.specs.Packet.{known_of, HasRawHead, IsPacketRefusal};
+ghost use Rattle.xs_slice_read.specs.Precinct.{ArePacketsRead, ArePacketsRefused, HasModeAmong, HasRawAfter, IsPacketPut, IsPrecinctRead, IsPrecinctRefusal, band_groups, known_bands, no_band, part_of, plain_fields};
 
 use crate::packet::{next, read_packet};
 use xs_bits::BitReader;
 use xs_faults::PrecinctFault;
-use xs_geometry::truncation;
-use xs_params::Header;
+use xs_geometry::{Geometry, PacketPlace, SliceRows, truncation};
+use xs_params::{Format, Header};
 use xs_read_lines::BandLine;
 
 /// What the header of a precinct says: the bytes after it, quantisation and refinement, and whether each band has mode 0.
@@ -69,7 +75,7 @@ fn read_head(bytes: &[u8], bands: u32) -> Head
 fn start(header: &Header, q: u8, r: u8, bands: &mut [BandLine])
     requires count { length header.now.weights ≡ bands_of header.now }
     requires groups { map (λ band. band.groups) bands.old ≡ band_groups header.now }
-    ensures known { map known_of bands.new ≡ known_lines header.now q r }
+    ensures known { map known_of bands.new ≡ known_bands header.now q r }
 {
     let weights = header.weights.as_slice();
     'bands: for k in 0..bands.len() {
@@ -77,22 +83,30 @@ fn start(header: &Header, q: u8, r: u8, bands: &mut [BandLine])
     }
 }
 
-/// Reads a precinct from the front of the bytes. The answer is the number of its bytes.
+/// Reads a precinct from the front of the bytes, and puts the lines of its packets into the rows. The answer is the number of
+/// its bytes.
 pub fn read_precinct(
     header: &Header,
+    geometry: &Geometry,
+    precinct: u32,
     bytes: &[u8],
     bands: &mut [BandLine],
+    rows: &mut SliceRows,
 ) -> Result<usize, PrecinctFault>
     requires few { length bytes.now < 2 ^ 32 }
-    requires count { length header.now.weights ≡ bands_of header.now }
-    requires bands { bands_of header.now ≤ 64 }
+    requires accepted { IsAccepted header.now }
+    requires built { HasBuiltValues header.now }
+    requires geometry { geometry.now ≡ geometry_of header.now }
+    requires there { precinct < precinct_count header.now }
     requires groups { map (λ band. band.groups) bands.old ≡ band_groups header.now }
+    requires lines { (slice : ℕ) × AreLinesOf header.now slice rows.old × Contains (precincts_of header.now slice) precinct }
     ensures groups { map (λ band. band.groups) bands.new ≡ band_groups header.now }
-    ensures read { IfOk result (λ size. IsPrecinctRead header.now bands.new bytes.now size) }
-    ensures refused { IfErr result (IsPrecinctRefusal header.now bytes.now) }
-    ensures unbuilt { (packet : ℕ) → IsUnbuilt header.now bytes.now packet → result ≡ Err (PrecinctFault.Unbuilt packet) }
+    ensures kept { (h : Header) (slice : ℕ) → AreLinesOf h slice rows.old → AreLinesOf h slice rows.new }
+    ensures read { IfOk result (λ size. IsPrecinctRead header.now precinct rows.old rows.new bytes.now size) }
+    ensures refused { IfErr result (IsPrecinctRefusal header.now precinct bytes.now) }
+    ensures unbuilt { (packet : ℕ) → IsUnbuilt header.now precinct bytes.now packet → (result ≡ Err (PrecinctFault.Unbuilt packet)) ⊎ ((1 ≤ packet) × (result ≡ Err PrecinctFault.Memory)) }
 {
-    let count = bands.len() as u32;
+    let count = geometry.bands();
     let first = head_size(count);
     if bytes.len() < first {
         return Err(PrecinctFault::Truncated);
@@ -105,11 +119,107 @@ pub fn read_precinct(
     if !head.plain {
         return Err(PrecinctFault::Unbuilt { packet: 0 });
     }
-    start(header, head.q, head.r, bands);
-    let packet = &bytes[first..first + size];
-    match read_packet(header.quant, header.long_heads, packet, bands) {
+    let body = &bytes[first..first + size];
+    match read_packets(header, geometry, precinct, head, body, bands, rows) {
         Ok(()) => Ok(first + size),
         Err(fault) => Err(fault),
+    }
+}
+
+// Reads the packets of a precinct, whose header was read.
+fn read_packets(
+    header: &Header,
+    geometry: &Geometry,
+    precinct: u32,
+    head: Head,
+    body: &[u8],
+    bands: &mut [BandLine],
+    rows: &mut SliceRows,
+) -> Result<(), PrecinctFault>
+    requires few { length body.now < 2 ^ 24 }
+    requires accepted { IsAccepted header.now }
+    requires geometry { geometry.now ≡ geometry_of header.now }
+    requires there { precinct < precinct_count header.now }
+    requires groups { map (λ band. band.groups) bands.old ≡ band_groups header.now }
+    requires lines { (slice : ℕ) × AreLinesOf header.now slice rows.old × Contains (precincts_of header.now slice) precinct }
+    ensures groups { map (λ band. band.groups) bands.new ≡ band_groups header.now }
+    ensures kept { (h : Header) (slice : ℕ) → AreLinesOf h slice rows.old → AreLinesOf h slice rows.new }
+    ensures read { OnOk result (ArePacketsRead header.now head.q head.r (packets_of header.now precinct) rows.old rows.new body.now) }
+    ensures refused { IfErr result (ArePacketsRefused header.now head.q head.r (packets_of header.now precinct) body.now) }
+    ensures raw { (packet : ℕ) → HasRawAfter header.now head.q head.r (packets_of header.now precinct) packet body.now → (result ≡ Err (PrecinctFault.Unbuilt packet)) ⊎ ((1 ≤ packet) × (result ≡ Err PrecinctFault.Memory)) }
+{
+    start(header, head.q, head.r, bands);
+    let mut at = 0;
+    'packets: for number in 0..geometry.packets(precinct) {
+        let place = geometry.packet(precinct, number);
+        match read_place(header, place, number, &body[at..], bands, rows) {
+            Ok(size) => at += size,
+            Err(fault) => return Err(fault),
+        }
+    }
+    Ok(())
+}
+
+// Reads the packet with this number at its place, and puts its lines into the rows. The answer is the number of its bytes.
+fn read_place(
+    header: &Header,
+    place: PacketPlace,
+    number: u32,
+    bytes: &[u8],
+    bands: &mut [BandLine],
+    rows: &mut SliceRows,
+) -> Result<usize, PrecinctFault>
+    requires few { length bytes.now < 2 ^ 24 }
+    requires count { length bands.old ≡ bands_of header.now }
+    requires most { bands_of header.now ≤ 64 }
+    requires there { HasBands header.now place }
+    requires lines { (band : ℕ) → Contains (packet_bands header.now (place_of place)) band → HasLine rows.old band place.line }
+    requires wide { (band : ℕ) → Contains (packet_bands header.now (place_of place)) band → length (row_at rows.old band place.line) ≤ 4 * (slice_index_or bands.old band no_band).groups }
+    ensures known { map known_of bands.new ≡ map known_of bands.old }
+    ensures kept { (h : Header) (slice : ℕ) → AreLinesOf h slice rows.old → AreLinesOf h slice rows.new }
+    ensures same_lines { (band other : ℕ) → HasLine rows.new band other ↔ HasLine rows.old band other }
+    ensures put { IfOk result (λ size. IsPacketPut header.now (place_of place) (part_of header.now (place_of place) (map known_of bands.old)) rows.old rows.new bytes.now size) }
+    ensures refused { IfErr result (IsPacketRefusal header.now.long_heads number (part_of header.now (place_of place) (map known_of bands.old)) bytes.now) }
+    ensures raw { HasRawHead header.now.long_heads bytes.now → result ≡ Err (PrecinctFault.Unbuilt number) }
+{
+    let count = components(header.shape.format);
+    let first = place.first_type * count;
+    let end = first + place.types * count;
+    let packet = &mut bands[first as usize..end as usize];
+    match read_packet(header.quant, header.long_heads, number, bytes, packet) {
+        Ok(size) => {
+            put_lines(rows, place.line, first, packet);
+            Ok(size)
+        }
+        Err(fault) => Err(fault),
+    }
+}
+
+// Puts the values of the lines of some bands, of which this is the first, into the rows of a line.
+fn put_lines(rows: &mut SliceRows, line: u32, first: u32, bands: &[BandLine])
+    requires there { (k : ℕ) → k < length bands.now → HasLine rows.old (first + k) line }
+    requires few { first + length bands.now ≤ 64 }
+    requires wide { (k : ℕ) → k < length bands.now → length (row_at rows.old (first + k) line) ≤ length (slice_index_or bands.now k no_band).values }
+    ensures kept { (h : Header) (slice : ℕ) → AreLinesOf h slice rows.old → AreLinesOf h slice rows.new }
+    ensures same_lines { (band other : ℕ) → HasLine rows.new band other ↔ HasLine rows.old band other }
+    ensures here { (k : ℕ) → k < length bands.now → row_at rows.new (first + k) line ≡ take (length (row_at rows.old (first + k) line)) (slice_index_or bands.now k no_band).values }
+    ensures elsewhere { (band other : ℕ) → HasLine rows.old band other → ((k : ℕ) → k < length bands.now → first + k ≡ band → other ≢ line) → row_at rows.new band other ≡ row_at rows.old band other }
+{
+    'bands: for k in 0..bands.len() {
+        let band = first + k as u32;
+        let width = rows.row(band, line).len();
+        rows.put_row(band, line, &bands[k].values()[..width]);
+    }
+}
+
+// The number of components.
+fn components(format: Format) -> u32
+    ensures count { result ≡ components_of format }
+    ensures few { result ≤ 3 }
+{
+    match format {
+        Format::Mono => 1,
+        Format::C422 | Format::C444 => 3,
     }
 }
 

@@ -1,14 +1,12 @@
 //! A slice: its header, and its precincts.
-ghost use Rattle.std.specs.Prelude.{◌≡◌, ◌≢◌, ℕ, ◌+◌, ◌<◌, ◌≤◌, ◌^◌, ◌↔◌, ◌∷◌, ◌++◌, [], true, false, length, map, take, IfOk, IfErr, OnOk, slice_index_or};
+ghost use Rattle.std.specs.Prelude.{◌≡◌, ◌≢◌, ◌<◌, ◌≤◌, ◌^◌, ◌∷◌, ◌++◌, [], true, false, length, map, take, IfOk, IfErr, OnOk};
 ghost use Rattle.xs_params.specs.declared.header.Header.{Header};
-ghost use Rattle.xs_grammar.specs.Geometry.{bands_of, slice_count};
+ghost use Rattle.xs_grammar.specs.Geometry.{slice_count};
 ghost use Rattle.xs_grammar.specs.Header.{IsAccepted};
 ghost use Rattle.xs_grammar.specs.Slice.{slice_head};
-ghost use Rattle.xs_lists.specs.Spelling.{BeginsWith};
-ghost use Rattle.xs_geometry.specs.SliceLines.{AreLinesOf, HasLine, row_at};
 ghost use Rattle.xs_decoding.specs.Built.{HasBuiltValues};
 ghost use Rattle.xs_slice_read.specs.Precinct.{band_groups};
-ghost use Rattle.xs_slice_read.specs.Slice.{IsSliceRead, IsSliceRefusal, no_buffer, slice_fault_of};
+ghost use Rattle.xs_slice_read.specs.Slice.{IsSliceRead, IsSliceRefusal, slice_fault_of};
 
 use crate::precinct::read_precinct;
 use std::alloc::Global;
@@ -54,12 +52,12 @@ pub fn read_front(
     let (first, end) = geometry.slice_precincts(slice);
     let mut place = HEAD;
     'precincts: for precinct in first..end {
-        let size = match read_precinct(header, &bytes[place..], bands.as_mut_slice()) {
-            Ok(size) => size,
+        let rest = &bytes[place..];
+        let lines = bands.as_mut_slice();
+        match read_precinct(header, &geometry, precinct, rest, lines, &mut rows) {
+            Ok(size) => place += size,
             Err(fault) => return Err(slice_fault(precinct, fault)),
-        };
-        put_lines(&mut rows, precinct, bands.as_slice());
-        place += size;
+        }
     }
     Ok((rows, place))
 }
@@ -113,22 +111,5 @@ fn add(bands: &mut Vec<BandLine>, band: BandLine) -> Result<(), Memory>
     match bands.push(band) {
         Ok(()) => Ok(()),
         Err(_) => Err(Memory),
-    }
-}
-
-// Puts the values of the bands' lines into the rows of a line.
-fn put_lines(rows: &mut SliceRows, line: u32, bands: &[BandLine])
-    requires there { (band : ℕ) → band < length bands.now → HasLine rows.old band line }
-    requires few { length bands.now ≤ 64 }
-    requires wide { (band : ℕ) → band < length bands.now → length (row_at rows.old band line) ≤ length (slice_index_or bands.now band no_buffer).values }
-    ensures lines { (h : Header) (slice : ℕ) → AreLinesOf h slice rows.old → AreLinesOf h slice rows.new }
-    ensures here { (band : ℕ) → band < length bands.now → row_at rows.new band line ≡ take (length (row_at rows.old band line)) (slice_index_or bands.now band no_buffer).values }
-    ensures same_lines { (band other : ℕ) → HasLine rows.new band other ↔ HasLine rows.old band other }
-    ensures elsewhere { (band other : ℕ) → HasLine rows.old band other → other ≢ line → row_at rows.new band other ≡ row_at rows.old band other }
-{
-    'bands: for k in 0..bands.len() {
-        let band = k as u32;
-        let width = rows.row(band, line).len();
-        rows.put_row(band, line, &bands[k].values()[..width]);
     }
 }
