@@ -1,7 +1,8 @@
 //! How the picture of a header is cut into bands, precincts and slices.
 ghost use Rattle.std.specs.Prelude.{◌≡◌, ◌+◌, ◌-◌, ◌*◌, ◌^◌, ◌<◌, ◌≤◌, min, true, length, MatchOption, ℕ};
+ghost use Rattle.std.specs.List.{range_with_len};
 ghost use Rattle.xs_layout.specs.Geometry.{components_of};
-ghost use Rattle.xs_grammar.specs.Geometry.{bands_of, band_component, band_type_of, band_width_of, band_height_of, component_width, has_line, lines_of, packet_places, packets_of, precinct_count, precinct_lines, slice_count};
+ghost use Rattle.xs_grammar.specs.Geometry.{bands_of, band_component, band_type_of, band_width_of, band_height_of, component_width, has_line, lines_of, packet_bands, packet_places, packets_of, precinct_count, precinct_lines, slice_count};
 ghost use Rattle.xs_grammar.specs.Header.{IsAccepted};
 ghost use Rattle.xs_geometry.specs.Kept.{geometry_of, IsGeometry};
 ghost use Rattle.xs_geometry.specs.Places.{HasBands, packet_at, place_in, place_of};
@@ -157,6 +158,20 @@ impl Geometry {
         ensures bands_there { HasBands self.now result }
     {
         self.nth_packet(precinct, number).unwrap()
+    }
+
+    /// The first band of a packet, and one past the last.
+    pub fn packet_bands(&self, place: PacketPlace) -> (u32, u32)
+        requires { HasBands self.now place }
+        ensures bands { packet_bands self.now (place_of place) ≡ range_with_len result.0 (result.1 - result.0) }
+        ensures order { result.0 ≤ result.1 }
+        ensures there { result.1 ≤ bands_of self.now }
+    {
+        let components = self.components();
+        (
+            place.first_type * components,
+            (place.first_type + place.types) * components,
+        )
     }
 
     /// The first line of a band in a slice, and one past the last.

@@ -1,5 +1,5 @@
 -- Sizes of what a row gives, and the bit planes of a magnitude.
-use Rattle.std.proofs.Common.{◌≡◌, ℕ, zero, suc, ℤ, pos, ◌+◌, ◌-◌, ◌*◌, ◌/◌, ◌%◌, ◌^◌, ◌<◌, ◌≤◌, List, ◌∷◌, [], ◌++◌, length, take, sum_by, map, get_or, get_or-set_other, refl, sym, ap, subst, ◌∙◌, arith, append_assoc, append-nil, length-append, Bool, true, false}
+use Rattle.std.proofs.Common.{◌≡◌, ℕ, zero, suc, ℤ, pos, ◌+◌, ◌-◌, ◌*◌, ◌/◌, ◌%◌, ◌^◌, ◌<◌, ◌≤◌, List, ◌∷◌, [], ◌++◌, length, take, sum_by, map, get_or, get_or-set_other, refl, sym, ap, subst, ◌∙◌, arith, length-append, Bool, true, false}
 use Rattle.std.specs.Prelude.{unsigned_abs, max, replicate, nat_le, nat_lt, count_by, if◌then◌else◌}
 use Rattle.std.specs.List.{flat_map, fold, range_with_len}
 use Rattle.std.specs.Int.{is_negative}
@@ -16,11 +16,6 @@ use Rattle.std.proofs.lemmas.Int.{ints}
 use Rattle.std.proofs.lemmas.Bool.{cases_eq, cases_lt, le-leb, lt-leb}
 use Rattle.std.proofs.lemmas.Grind.{get_or-set_at}
 use Rattle.std.proofs.lemmas.List.FromFn.{get_or-map-range_with_len}
-use Rattle.std.proofs.lemmas.List.Folds.{flat_map-map}
-use Rattle.xs_lists.specs.Bits.{bits_of, bits_of_fields, bytes_for}
-use Rattle.xs_lists.specs.Packing.{missing_bits}
-use Rattle.xs_lists.proofs.Bits.{length-bits_of}
-use Rattle.xs_lines.specs.Rows.{aligned}
 use Rattle.xs_lists.proofs.Each.{range-more}
 use Rattle.xs_signal.specs.Lines.{entries_of, IsBelow}
 use Rattle.xs_lists.specs.Bits.{bit_of}
@@ -152,60 +147,6 @@ data_form row counts same =
     ∙ ap (λ n. flat_map (λ g. group_data (numbers_of row g) (get_or (row_counts row) g 0)) (upto n)) (length-row_counts row)
     ∙ same_pieces (λ g. group_data (numbers_of row g) (get_or (row_counts row) g 0)) (λ g. group_data (numbers_of row g) (planes_at row g)) 0 (length row / 4)
     (λ i low high. let none : 0 + i ≡ i = omega arith in ap (group_data (numbers_of row i)) (get_or-map-range_with_len (planes_at row) 0 (length row / 4) i i 0 (omega (arith, high)) none))
-
--- Bits up to a byte border
-
-pub missing_after : (before part : List ℕ) → length before % 8 ≡ 0 → missing_bits (length (before ++ part)) ≡ missing_bits (length part)
-missing_after before part border = omega (arith, border, length-append before part)
-
-pub aligned_after : (before part : List ℕ) → length before % 8 ≡ 0 → (before ++ part) ++ replicate (missing_bits (length (before ++ part))) 0 ≡ before ++ aligned part
-aligned_after before part border =
-    ap (λ n. (before ++ part) ++ replicate n 0) (missing_after before part border) ∙ append_assoc before part (replicate (missing_bits (length part)) 0)
-
--- what `align` makes of bits behind a border
-pub aligned_bits : (before part now next : List ℕ) → length before % 8 ≡ 0 → now ≡ before ++ part → next ≡ now ++ replicate (missing_bits (length now)) 0 → next ≡ before ++ aligned part
-aligned_bits before part now next border here align = align ∙ ap (λ l. l ++ replicate (missing_bits (length l)) 0) here ∙ aligned_after before part border
-
-pub aligned_room : (before part now : List ℕ) → length before % 8 ≡ 0 → now ≡ before ++ part → length part + missing_bits (length now) ≡ 8 * bytes_for (length part)
-aligned_room before part now border here = omega (arith, ap length here, missing_after before part border, ap (λ l. missing_bits (length l)) here)
-
--- four fields
-pub four_fields : (before a b c d : List ℕ) (v w x y : ℕ) → a ≡ before ++ bits_of 1 v → b ≡ a ++ bits_of 15 w → c ≡ b ++ bits_of 13 x → d ≡ c ++ bits_of 11 y
-    → d ≡ before ++ bits_of_fields ((1, v) ∷ (15, w) ∷ (13, x) ∷ (11, y) ∷ [])
-four_fields before a b c d v w x y p q r s =
-    s ∙ ap (λ l. l ++ bits_of 11 y) (r ∙ ap (λ l. l ++ bits_of 13 x) (q ∙ ap (λ l. l ++ bits_of 15 w) p))
-    ∙ joined before (bits_of 1 v) (bits_of 15 w) (bits_of 13 x) (bits_of 11 y)
-  where
-    joined : (o k l m n : List ℕ) → (((o ++ k) ++ l) ++ m) ++ n ≡ o ++ (k ++ (l ++ (m ++ (n ++ []))))
-    joined o k l m n = simp (append_assoc, append-nil) refl
-
-pub head_border : (before now : List ℕ) (v w x y : ℕ) → length before % 8 ≡ 0 → now ≡ before ++ bits_of_fields ((1, v) ∷ (15, w) ∷ (13, x) ∷ (11, y) ∷ []) → length now % 8 ≡ 0
-head_border before now v w x y border here =
-    omega (
-      arith,
-      border,
-      ap length here,
-      length-append before (bits_of_fields ((1, v) ∷ (15, w) ∷ (13, x) ∷ (11, y) ∷ [])),
-      length-append (bits_of 1 v) (bits_of 15 w ++ (bits_of 13 x ++ (bits_of 11 y ++ []))),
-      length-append (bits_of 15 w) (bits_of 13 x ++ (bits_of 11 y ++ [])),
-      length-append (bits_of 13 x) (bits_of 11 y ++ []),
-      length-append (bits_of 11 y) [],
-      length-bits_of 1 v,
-      length-bits_of 15 w,
-      length-bits_of 13 x,
-      length-bits_of 11 y,
-    )
-
--- The header of a precinct
-pub head_form : (rows : List (List ℤ)) (size : ℕ) (before a b c d : List ℕ) → a ≡ before ++ bits_of 24 size → b ≡ a ++ bits_of 8 0 → c ≡ b ++ bits_of 8 0 → d ≡ c ++ flat_map (λ _. bits_of 2 0) rows
-    → d ≡ before ++ bits_of_fields ((24, size) ∷ (8, 0) ∷ (8, 0) ∷ map (λ _. (2, 0)) rows)
-head_form rows size before a b c d p q r s =
-    s ∙ ap (λ l. l ++ flat_map (λ _. bits_of 2 0) rows) (r ∙ ap (λ l. l ++ bits_of 8 0) (q ∙ ap (λ l. l ++ bits_of 8 0) p))
-    ∙ joined before (bits_of 24 size) (bits_of 8 0) (bits_of 8 0) (flat_map (λ _. bits_of 2 0) rows)
-    ∙ ap (λ l. before ++ (bits_of 24 size ++ (bits_of 8 0 ++ (bits_of 8 0 ++ l)))) (sym (flat_map-map (λ (field : ℕ × ℕ). bits_of field.0 field.1) (λ _. (2, 0)) rows))
-  where
-    joined : (o k l m n : List ℕ) → (((o ++ k) ++ l) ++ m) ++ n ≡ o ++ (k ++ (l ++ (m ++ n)))
-    joined o k l m n = simp append_assoc refl
 
 -- Magnitudes
 

@@ -71,7 +71,7 @@ height_most h band accepted inside =
 ceil_covers : (n d : ℕ) → 1 ≤ d → n ≤ ceil_div n d * d
 ceil_covers n d some = omega (arith, some)
 
-quotient_below : (n d q : ℕ) → 0 < d → n < q * d → n / d < q
+pub quotient_below : (n d q : ℕ) → 0 < d → n < q * d → n / d < q
 quotient_below n d q some less =
     elim (cases_lt (n / d) q) [
       | inl below ↦ below

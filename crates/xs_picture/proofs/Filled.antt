@@ -1,7 +1,7 @@
 -- The planes of the bands of a component are filled line by line, and its plane is joined of them.
 use Rattle.std.proofs.Common.{◌≡◌, ◌≢◌, ℕ, ◌+◌, ◌/◌, ◌<◌, ◌≤◌, List, [], length, get_or, ℤ, pos, refl, sym, ap, subst, ◌∙◌, arith, inl, inr, Bool, true, false}
 use Rattle.std.specs.Prelude.{if◌then◌else◌}
-use Rattle.std.proofs.lemmas.Bool.{cases_eq, cases_lt}
+use Rattle.std.proofs.lemmas.Bool.{cases_lt}
 use Rattle.std.proofs.lemmas.List.{get_or_past}
 use Rattle.xs_layout.specs.Geometry.{BandType, components_of}
 use Rattle.xs_params.specs.declared.header.Header.{Header}
@@ -17,47 +17,27 @@ use Rattle.xs_decoding.proofs.Numbers.{type_in, plane_of_number, width_of_number
 use Rattle.xs_decoding.proofs.Within.{accepted_component}
 use Rattle.xs_picture.specs.Coefs.{Coefs, AreCoefs, rows_of_slices}
 use Rattle.xs_picture.specs.Decoding.{raised, raised_band, raised_bands, coefficient_bound, colour_bound, IsBandPlane, component_split, AreComponentBands, IsComponentPlane, joined_planes}
+use Rattle.xs_picture.proofs.Held.{HoldsTo, holds_more, holds_all}
 use Rattle.xs_picture.proofs.Bounds.{zero_below, rows_small, AreBandsLow, inverse_low}
 
 -- ---- lines
 
 -- the first lines of a band are filled
-pub record IsFilledTo (c : Coefs) (band line : ℕ) (rows : List (List ℤ)) : Type 0 where
-  pub size : HasSize (band_width_of c.header band) (band_height_of c.header band) rows
-  pub same : (row column : ℕ) → row < line → column < band_width_of c.header band → plane_of rows row column ≡ raised_band c band row column
-  pub small : (row : ℕ) → row < line → AllBelow coefficient_bound (plane_of rows row)
+abbrev pub IsFilledTo : Coefs → ℕ → ℕ → List (List ℤ) → Type 0
+IsFilledTo c band = HoldsTo (band_width_of c.header band) (band_height_of c.header band) coefficient_bound (raised_band c band)
 
 pub filled_more : (c : Coefs) (band line : ℕ) (old new : List (List ℤ)) → line < length old
     → ((column : ℕ) → column < length (get_or old line []) → plane_of new line column ≡ raised_band c band line column) → AllBelow coefficient_bound (plane_of new line)
     → ((row : ℕ) → row ≢ line → get_or new row [] ≡ get_or old row []) → length (get_or new line []) ≡ length (get_or old line []) → length new ≡ length old
     → IsFilledTo c band line old → IsFilledTo c band (line + 1) new
-filled_more c band line old new inside here small others width count before = record {
-  size = record {
-    wide = λ row there.
-        elim (cases_eq row line) [
-          | inl is ↦ ap (λ r. length (get_or new r [])) is ∙ width ∙ before.size.wide line inside
-          | inr other ↦ ap length (others row other) ∙ before.size.wide row (omega (arith, there, count))
-        ];
-    high = count ∙ before.size.high;
-  };
-  same = λ row column there within.
-      elim (cases_eq row line) [
-        | inl is ↦ ap (λ r. plane_of new r column) is ∙ here column (omega (arith, within, before.size.wide line inside)) ∙ sym (ap (λ r. raised_band c band r column) is)
-        | inr other ↦ ap (λ r. entries_of r column) (others row other) ∙ before.same row column (omega (arith, there, other)) within
-      ];
-  small = λ row there.
-      elim (cases_eq row line) [
-        | inl is ↦ subst (λ r. AllBelow coefficient_bound (plane_of new r)) (sym is) small
-        | inr other ↦ subst (λ r. AllBelow coefficient_bound (entries_of r)) (sym (others row other)) (before.small row (omega (arith, there, other)))
-      ];
-}
+filled_more c band line old new inside here small others width count before =
+    holds_more (band_width_of c.header band) (band_height_of c.header band) coefficient_bound line (raised_band c band) old new inside
+    (λ column within. here column (omega (arith, within, before.size.wide line inside))) small others width count before
 
 pub filled_all : (c : Coefs) (band line : ℕ) (rows : List (List ℤ)) → band_height_of c.header band ≤ line → IsFilledTo c band line rows → IsBandPlane c band rows
-filled_all c band line rows all filled = record {
-  size = filled.size;
-  same = λ row column above within. filled.same row column (omega (arith, above, all)) within;
-  small = rows_small coefficient_bound rows (omega arith) (λ row inside. filled.small row (omega (arith, inside, all, filled.size.high)));
-}
+filled_all c band line rows all filled =
+    let plane = holds_all (band_width_of c.header band) (band_height_of c.header band) coefficient_bound line (raised_band c band) rows (omega arith) all filled in
+    record { size = plane.size; same = plane.same; small = plane.small }
 
 -- ---- bands
 
@@ -83,7 +63,7 @@ bands_small c component planes are number =
       | inr past ↦ subst (IsSmall coefficient_bound) (sym (get_or_past planes number [] past)) (rows_small coefficient_bound [] (omega arith) (λ row inside. absurd (omega (arith, inside))))
     ]
 
-each_plane : (f : ℤ → ℤ) (b : Bands) (type : BandType) (row column : ℕ) → band_plane (each_entry f b) type row column ≡ f (band_plane b type row column)
+pub each_plane : (f : ℤ → ℤ) (b : Bands) (type : BandType) (row column : ℕ) → band_plane (each_entry f b) type row column ≡ f (band_plane b type row column)
 each_plane f b type row column = cases type.high_down type.high_across
   where
     cases : (down across : Bool)

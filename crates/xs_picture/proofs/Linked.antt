@@ -1,8 +1,9 @@
--- The bits of the rows of a grey picture's line are those of the bytes that the definition gives.
-use Rattle.std.proofs.Common.{◌≡◌, ℕ, ◌+◌, ◌*◌, ◌/◌, ◌%◌, ◌^◌, ◌<◌, List, [], ◌∷◌, ◌++◌, map, length, refl, sym, ap, ◌∙◌, arith, append-nil, length-append}
+-- The bits of the rows of a precinct are those of the bytes that the definition gives.
+use Rattle.std.proofs.Common.{◌≡◌, ℕ, zero, suc, ◌+◌, ◌-◌, ◌*◌, ◌/◌, ◌%◌, ◌^◌, ◌<◌, ◌≤◌, List, [], ◌∷◌, ◌++◌, map, length, get_or, sum_by, refl, sym, ap, ◌∙◌, arith, length-append}
 use Rattle.std.specs.Prelude.{Bool, true, false, nat_lt, if◌then◌else◌, max, ℤ, unsigned_abs, replicate}
 use Rattle.std.specs.Int.{is_negative}
-use Rattle.std.specs.List.{flat_map, fold}
+use Rattle.std.specs.List.{flat_map, fold, range_with_len, Contains}
+use Rattle.std.proofs.lemmas.List.Sums.{sum_by-cons}
 use Rattle.std.proofs.lemmas.List.Concat.{flat_map-append}
 use Rattle.xs_lists.specs.Bits.{bits_of, bits_of_bytes, bits_of_fields, bytes_for, bit_of}
 use Rattle.xs_lists.specs.Packing.{packed, AreBits}
@@ -10,20 +11,30 @@ use Rattle.xs_lists.specs.Spelling.{upto, downto}
 use Rattle.xs_lists.proofs.Packing.{packed_bits, length-packed}
 use Rattle.xs_lists.proofs.Bitwise.{fields-are, join-are, replicate-are, bit_of-is}
 use Rattle.xs_lists.proofs.Walk.{all-append}
+use Rattle.xs_layout.specs.Geometry.{PacketPlace}
 use Rattle.xs_params.specs.declared.header.Header.{Header}
 use Rattle.xs_signal.specs.Lines.{entries_of}
 use Rattle.xs_spelling.specs.Counts.{unary}
 use Rattle.xs_spelling.specs.Data.{columns_of}
+use Rattle.xs_grammar.specs.Geometry.{bands_of, lines_of, packet_bands, packets_of, precinct_lines}
 use Rattle.xs_grammar.specs.Coded.{field_bytes}
 use Rattle.xs_grammar.proofs.Coded.{fields_whole, length-widths}
+use Rattle.xs_geometry.specs.Kept.{IsGeometry}
+use Rattle.xs_geometry.specs.Lines.{IsLineOf}
+use Rattle.xs_geometry.specs.Places.{no_place}
+use Rattle.xs_geometry.proofs.PacketLines.{packets_have_lines}
+use Rattle.xs_geometry.proofs.PlaceFacts.{in_range}
 use Rattle.xs_rate.specs.Coefficients.{Rows}
 use Rattle.xs_rate.specs.Content.{planes_of, digits_of}
 use Rattle.xs_rate.specs.Finest.{numbers_of, band_groups, row_counts, row_data}
-use Rattle.xs_rate.specs.Grey.{line_counts, line_data, line_precinct}
+use Rattle.xs_rate.specs.WrittenOut.{finest_counts, finest_data, finest_packet, finest_body, finest_precinct}
 use Rattle.xs_rate.proofs.Finest.{map-same, flat_map-same}
 use Rattle.xs_lines.specs.Plain as plain
 use Rattle.xs_lines.specs.Plain.{group_data, plane_of}
-use Rattle.xs_lines.specs.Rows.{planes_at, count_bits, data_bits, aligned, counts_size, data_size, packet_head, packet_bits, precinct_head, precinct_bits}
+use Rattle.xs_lines.specs.Rows as lines
+use Rattle.xs_lines.specs.Rows.{planes_at, count_bits, data_bits}
+use Rattle.xs_picture.specs.PrecinctRows.{HaveRoom, PrecinctRows, ShowPrecinct}
+use Rattle.xs_picture.specs.PacketBits.{aligned, body_bits, line_row, numbers_size, packet_bits, packet_counts, packet_head, packet_numbers, packet_size, precinct_bits, precinct_head}
 
 -- Rows as lists and as functions
 
@@ -42,13 +53,12 @@ same_planes row group = ap (λ columns. digits_of (fold max 0 (map (λ column. u
 quarter : (n groups : ℕ) → n ≡ 4 * groups → n / 4 ≡ groups
 quarter n groups e = omega (arith, e)
 
-pub counts_linked : (row : List ℤ) (groups : ℕ) → length row ≡ 4 * groups → row_counts (entries_of row) groups ≡ count_bits row
+counts_linked : (row : List ℤ) (groups : ℕ) → length row ≡ 4 * groups → row_counts (entries_of row) groups ≡ count_bits row
 counts_linked row groups width =
     ap (flat_map unary) (map-same (planes_of (entries_of row)) (planes_at row) (same_planes row) (upto groups) ∙ ap (λ n. map (planes_at row) (upto n)) (sym (quarter (length row) groups width)))
 
-pub data_linked : (row : List ℤ) (groups : ℕ) → length row ≡ 4 * groups
-    → row_data (entries_of row) groups ≡ data_bits row
-data_linked row groups width =
+numbers_linked : (row : List ℤ) (groups : ℕ) → length row ≡ 4 * groups → row_data (entries_of row) groups ≡ data_bits row
+numbers_linked row groups width =
     flat_map-same (λ group. group_data (numbers_of (entries_of row) group) (planes_of (entries_of row) group)) (λ group. group_data (plain.numbers_of row group) (planes_at row group))
     (λ group. ap (λ numbers. group_data numbers (planes_of (entries_of row) group)) (same_numbers row group) ∙ ap (group_data (plain.numbers_of row group)) (same_planes row group)) (upto groups)
     ∙ ap (λ n. flat_map (λ group. group_data (plain.numbers_of row group) (planes_at row group)) (upto n)) (sym (quarter (length row) groups width))
@@ -72,66 +82,132 @@ group-are numbers count = cases (nat_lt 0 count)
     cases true = all-append (λ bit. bit < 2) (map (λ z. bit_of (is_negative z)) numbers) (flat_map (plane_of numbers) (downto count 0)) (each-are (λ z. bit_of (is_negative z)) (λ z. bit_of-is (is_negative z)) numbers) planes
     cases false = tt
 
-counts-are : (rows : List (List ℤ)) → AreBits (flat_map count_bits rows)
-counts-are rows = join-are count_bits (λ row. join-are unary unary-are (Rattle.xs_lines.specs.Rows.row_counts row)) rows
+count_bits-are : (row : List ℤ) → AreBits (count_bits row)
+count_bits-are row = join-are unary unary-are (lines.row_counts row)
 
-data-are : (rows : List (List ℤ)) → AreBits (flat_map data_bits rows)
-data-are rows = join-are data_bits (λ row. join-are (λ group. group_data (plain.numbers_of row group) (planes_at row group)) (λ group. group-are (plain.numbers_of row group) (planes_at row group)) (upto (length row / 4))) rows
+data_bits-are : (row : List ℤ) → AreBits (data_bits row)
+data_bits-are row = join-are (λ group. group_data (plain.numbers_of row group) (planes_at row group)) (λ group. group-are (plain.numbers_of row group) (planes_at row group)) (upto (length row / 4))
 
--- A line
+counts-are : (r : PrecinctRows) (precinct : ℕ) (place : PacketPlace) → AreBits (packet_counts r precinct place)
+counts-are r precinct place = join-are (λ band. count_bits (line_row r precinct place.line band)) (λ band. count_bits-are (line_row r precinct place.line band)) (packet_bands r.layout place)
+
+numbers-are : (r : PrecinctRows) (precinct : ℕ) (place : PacketPlace) → AreBits (packet_numbers r precinct place)
+numbers-are r precinct place = join-are (λ band. data_bits (line_row r precinct place.line band)) (λ band. data_bits-are (line_row r precinct place.line band)) (packet_bands r.layout place)
+
+-- Joined lists
 
 joined-bits : (a b : List ℕ) → bits_of_bytes (a ++ b) ≡ bits_of_bytes a ++ bits_of_bytes b
 joined-bits a b = flat_map-append (bits_of 8) a b
 
--- a packet of these counts and data
+same_pieces : (f g : ℕ → List ℕ) (first n : ℕ) → ((i : ℕ) → Contains (range_with_len first n) i → f i ≡ g i) → flat_map f (range_with_len first n) ≡ flat_map g (range_with_len first n)
+same_pieces f g first n same = from first n (λ i low high. same i (in_range first n i low high))
+  where
+    from : (first n : ℕ) → ((i : ℕ) → first ≤ i → i < first + n → f i ≡ g i) → flat_map f (range_with_len first n) ≡ flat_map g (range_with_len first n)
+    from first zero same = refl
+    from first (suc n) same =
+        ap (λ l. l ++ flat_map f (range_with_len (first + 1) n)) (same first (omega arith) (omega arith))
+        ∙ ap (λ l. g first ++ l) (from (first + 1) n (λ i low high. same i (omega (arith, low)) (omega (arith, high))))
+
+-- the bits of pieces of bytes
+pieces_linked : {A : Type 0} (f g : A → List ℕ) (xs : List A) (d : A) → ((k : ℕ) → k < length xs → bits_of_bytes (f (get_or xs k d)) ≡ g (get_or xs k d)) → bits_of_bytes (flat_map f xs) ≡ flat_map g xs
+pieces_linked f g [] d same = refl
+pieces_linked f g (x ∷ xs) d same =
+    joined-bits (f x) (flat_map f xs) ∙ ap (λ l. l ++ bits_of_bytes (flat_map f xs)) (same 0 (omega arith))
+    ∙ ap (λ l. g x ++ l) (pieces_linked f g xs d (λ k inside. same (suc k) (omega (arith, inside))))
+
+-- and how many bytes they are
+pieces_sized : {A : Type 0} (f : A → List ℕ) (size : A → ℕ) (xs : List A) (d : A) → ((k : ℕ) → k < length xs → length (f (get_or xs k d)) ≡ size (get_or xs k d)) → length (flat_map f xs) ≡ sum_by size xs
+pieces_sized f size [] d same = refl
+pieces_sized f size (x ∷ xs) d same =
+    let first = same 0 (omega arith) in
+    omega (arith, length-append (f x) (flat_map f xs), first, sum_by-cons size x xs, pieces_sized f size xs d (λ k inside. same (suc k) (omega (arith, inside))))
+
+-- Packets
+
+-- the place has lines that are there
+abbrev AreThere : Header → ℕ → PacketPlace → Type 0
+AreThere h precinct place = (band : ℕ) → Contains (packet_bands h place) band → IsLineOf h precinct band place.line
+
+-- the row of a line that is there has its band's code groups
+row_groups : (r : PrecinctRows) (precinct band line : ℕ) → HaveRoom r.layout r.rows → IsLineOf r.layout precinct band line → length (line_row r precinct line band) ≡ 4 * band_groups r.layout band
+row_groups r precinct band line room there =
+    let lines = precinct_lines r.layout band in
+    let next : (precinct + 1) * lines ≡ precinct * lines + lines = omega arith in
+    room.groups band (line - (lines_of r.layout precinct band).0) there.band_there (omega (arith, there.from, there.to, there.line_there, next))
+
+row_shown : (r : PrecinctRows) (coefficients : Rows) (precinct band line : ℕ) → ShowPrecinct r.layout coefficients precinct r.rows → IsLineOf r.layout precinct band line → coefficients band line ≡ entries_of (line_row r precinct line band)
+row_shown r coefficients precinct band line shown there = sym (λ i k. shown band line there k i)
+
+counts_same : (r : PrecinctRows) (coefficients : Rows) (precinct : ℕ) (place : PacketPlace) → HaveRoom r.layout r.rows → ShowPrecinct r.layout coefficients precinct r.rows → AreThere r.layout precinct place
+    → finest_counts r.layout coefficients place ≡ packed (packet_counts r precinct place)
+counts_same r coefficients precinct place room shown there =
+    let h = r.layout in
+    ap packed (same_pieces (λ band. row_counts (coefficients band place.line) (band_groups h band)) (λ band. count_bits (line_row r precinct place.line band)) _ _
+    (λ band has. ap (λ f. row_counts f (band_groups h band)) (row_shown r coefficients precinct band place.line shown (there band has))
+    ∙ counts_linked (line_row r precinct place.line band) (band_groups h band) (row_groups r precinct band place.line room (there band has))))
+
+numbers_same : (r : PrecinctRows) (coefficients : Rows) (precinct : ℕ) (place : PacketPlace) → HaveRoom r.layout r.rows → ShowPrecinct r.layout coefficients precinct r.rows → AreThere r.layout precinct place
+    → finest_data r.layout coefficients place ≡ packed (packet_numbers r precinct place)
+numbers_same r coefficients precinct place room shown there =
+    let h = r.layout in
+    ap packed (same_pieces (λ band. row_data (coefficients band place.line) (band_groups h band)) (λ band. data_bits (line_row r precinct place.line band)) _ _
+    (λ band has. ap (λ f. row_data f (band_groups h band)) (row_shown r coefficients precinct band place.line shown (there band has))
+    ∙ numbers_linked (line_row r precinct place.line band) (band_groups h band) (row_groups r precinct band place.line room (there band has))))
+
+-- a packet of these counts and numbers
 abbrev packet_of : List ℕ → List ℕ → List ℕ
-packet_of counts planes = field_bytes ((1, 0) ∷ (15, length planes) ∷ (13, length counts) ∷ (11, 0) ∷ []) ++ (counts ++ planes)
+packet_of counts numbers = field_bytes (packet_head (length counts) (length numbers)) ++ (counts ++ numbers)
 
-abbrev precinct_of : List ℕ → List ℕ
-precinct_of packet = field_bytes ((24, length packet) ∷ (8, 0) ∷ (8, 0) ∷ (2, 0) ∷ (2, 0) ∷ []) ++ packet
+packet_same : (r : PrecinctRows) (coefficients : Rows) (precinct : ℕ) (place : PacketPlace) → HaveRoom r.layout r.rows → ShowPrecinct r.layout coefficients precinct r.rows → AreThere r.layout precinct place
+    → finest_packet r.layout coefficients place ≡ packet_of (packed (packet_counts r precinct place)) (packed (packet_numbers r precinct place))
+packet_same r coefficients precinct place room shown there =
+    ap (λ counts. packet_of counts (finest_data r.layout coefficients place)) (counts_same r coefficients precinct place room shown there)
+    ∙ ap (packet_of (packed (packet_counts r precinct place))) (numbers_same r coefficients precinct place room shown there)
 
-packet_linked : (rows : List (List ℤ)) → bits_of_bytes (packet_of (packed (flat_map count_bits rows)) (packed (flat_map data_bits rows))) ≡ packet_bits rows
-packet_linked rows =
-    let counts = packed (flat_map count_bits rows) in
-    let planes = packed (flat_map data_bits rows) in
-    let fields = (1, 0) ∷ (15, length planes) ∷ (13, length counts) ∷ (11, 0) ∷ [] in
-    joined-bits (field_bytes fields) (counts ++ planes)
-    ∙ ap (λ l. l ++ bits_of_bytes (counts ++ planes)) (fields_whole fields refl)
-    ∙ ap (λ l. bits_of_fields fields ++ l) (joined-bits counts planes ∙ ap (λ l. l ++ bits_of_bytes planes) (packed_bits (flat_map count_bits rows) (counts-are rows)) ∙ ap (λ l. aligned (flat_map count_bits rows) ++ l) (packed_bits (flat_map data_bits rows) (data-are rows)))
-    ∙ ap (λ n. bits_of_fields ((1, 0) ∷ (15, n) ∷ (13, length counts) ∷ (11, 0) ∷ []) ++ (aligned (flat_map count_bits rows) ++ aligned (flat_map data_bits rows))) (length-packed (flat_map data_bits rows))
-    ∙ ap (λ n. bits_of_fields ((1, 0) ∷ (15, data_size rows) ∷ (13, n) ∷ (11, 0) ∷ []) ++ (aligned (flat_map count_bits rows) ++ aligned (flat_map data_bits rows))) (length-packed (flat_map count_bits rows))
+packet_linked : (r : PrecinctRows) (precinct : ℕ) (place : PacketPlace) → bits_of_bytes (packet_of (packed (packet_counts r precinct place)) (packed (packet_numbers r precinct place))) ≡ packet_bits r precinct place
+packet_linked r precinct place =
+    let counts = packed (packet_counts r precinct place) in
+    let numbers = packed (packet_numbers r precinct place) in
+    let both = aligned (packet_counts r precinct place) ++ aligned (packet_numbers r precinct place) in
+    let fields = packet_head (length counts) (length numbers) in
+    joined-bits (field_bytes fields) (counts ++ numbers)
+    ∙ ap (λ l. l ++ bits_of_bytes (counts ++ numbers)) (fields_whole fields refl)
+    ∙ ap (λ l. bits_of_fields fields ++ l) (joined-bits counts numbers ∙ ap (λ l. l ++ bits_of_bytes numbers) (packed_bits (packet_counts r precinct place) (counts-are r precinct place)) ∙ ap (λ l. aligned (packet_counts r precinct place) ++ l) (packed_bits (packet_numbers r precinct place) (numbers-are r precinct place)))
+    ∙ ap (λ n. bits_of_fields (packet_head (length counts) n) ++ both) (length-packed (packet_numbers r precinct place))
+    ∙ ap (λ n. bits_of_fields (packet_head n (numbers_size r precinct place)) ++ both) (length-packed (packet_counts r precinct place))
 
-packet_size : (rows : List (List ℤ)) → length (packet_of (packed (flat_map count_bits rows)) (packed (flat_map data_bits rows))) ≡ 5 + counts_size rows + data_size rows
-packet_size rows =
-    let counts = packed (flat_map count_bits rows) in
-    let planes = packed (flat_map data_bits rows) in
-    let fields = (1, 0) ∷ (15, length planes) ∷ (13, length counts) ∷ (11, 0) ∷ [] in
+packet_sized : (r : PrecinctRows) (precinct : ℕ) (place : PacketPlace) → length (packet_of (packed (packet_counts r precinct place)) (packed (packet_numbers r precinct place))) ≡ packet_size r precinct place
+packet_sized r precinct place =
+    let counts = packed (packet_counts r precinct place) in
+    let numbers = packed (packet_numbers r precinct place) in
+    let fields = packet_head (length counts) (length numbers) in
     let head : length (field_bytes fields) ≡ 5 = length-packed (bits_of_fields fields) ∙ ap bytes_for (length-widths fields) in
-    omega (arith, length-append (field_bytes fields) (counts ++ planes), length-append counts planes, head, length-packed (flat_map count_bits rows), length-packed (flat_map data_bits rows))
+    omega (arith, length-append (field_bytes fields) (counts ++ numbers), length-append counts numbers, head, length-packed (packet_counts r precinct place), length-packed (packet_numbers r precinct place))
 
-precinct_linked : (low high : List ℤ) → let rows = low ∷ high ∷ [] in bits_of_bytes (precinct_of (packet_of (packed (flat_map count_bits rows)) (packed (flat_map data_bits rows)))) ≡ precinct_bits rows
-precinct_linked low high =
-    let rows = low ∷ high ∷ [] in
-    let packet = packet_of (packed (flat_map count_bits rows)) (packed (flat_map data_bits rows)) in
-    let fields = λ (n : ℕ). (24, n) ∷ (8, 0) ∷ (8, 0) ∷ (2, 0) ∷ (2, 0) ∷ [] in
-    joined-bits (field_bytes (fields (length packet))) packet
-    ∙ ap (λ l. l ++ bits_of_bytes packet) (packed_bits (bits_of_fields (fields (length packet))) (fields-are (fields (length packet))))
-    ∙ ap (λ l. aligned (bits_of_fields (fields (length packet))) ++ l) (packet_linked rows)
-    ∙ ap (λ n. aligned (bits_of_fields (fields n)) ++ packet_bits rows) (packet_size rows)
+-- Precincts
 
--- the bits of a line's precinct are those of its rows
-pub line_linked : (h : Header) (rows : Rows) (line : ℕ) (low high : List ℤ) → ((k : ℕ) → entries_of low k ≡ rows 0 line k) → ((k : ℕ) → entries_of high k ≡ rows 1 line k)
-    → length low ≡ 4 * band_groups h 0 → length high ≡ 4 * band_groups h 1 → bits_of_bytes (line_precinct h rows line) ≡ precinct_bits (low ∷ high ∷ [])
-line_linked h rows line low high lows highs low_width high_width =
-    let first : entries_of low ≡ rows 0 line = λ i k. lows k i in
-    let second : entries_of high ≡ rows 1 line = λ i k. highs k i in
-    let list = low ∷ high ∷ [] in
-    let a = ap (λ f. row_counts f (band_groups h 0)) (sym first) ∙ counts_linked low (band_groups h 0) low_width in
-    let b = ap (λ f. row_counts f (band_groups h 1)) (sym second) ∙ counts_linked high (band_groups h 1) high_width in
-    let c = ap (λ f. row_data f (band_groups h 0)) (sym first) ∙ data_linked low (band_groups h 0) low_width in
-    let d = ap (λ f. row_data f (band_groups h 1)) (sym second) ∙ data_linked high (band_groups h 1) high_width in
-    let counts : line_counts h rows line ≡ packed (flat_map count_bits list) =
-    ap packed (ap (λ l. l ++ row_counts (rows 1 line) (band_groups h 1)) a ∙ ap (λ l. count_bits low ++ l) (b ∙ sym (append-nil (count_bits high)))) in
-    let planes : line_data h rows line ≡ packed (flat_map data_bits list) =
-    ap packed (ap (λ l. l ++ row_data (rows 1 line) (band_groups h 1)) c ∙ ap (λ l. data_bits low ++ l) (d ∙ sym (append-nil (data_bits high)))) in
-    ap (λ packet. bits_of_bytes (precinct_of packet)) (ap (λ x. packet_of x (line_data h rows line)) counts ∙ ap (packet_of (packed (flat_map count_bits list))) planes) ∙ precinct_linked low high
+-- the bits of a precinct are those of its rows
+pub precinct_linked : (r : PrecinctRows) (coefficients : Rows) (precinct : ℕ) → IsGeometry r.layout → HaveRoom r.layout r.rows → ShowPrecinct r.layout coefficients precinct r.rows
+    → precinct_bits r precinct ≡ bits_of_bytes (finest_precinct r.layout coefficients precinct)
+precinct_linked r coefficients precinct ranges room shown =
+    let h = r.layout in
+    let body = finest_body h coefficients precinct in
+    let fields = λ (n : ℕ). precinct_head (bands_of h) n in
+    sym (
+    joined-bits (field_bytes (fields (length body))) body
+    ∙ ap (λ l. l ++ bits_of_bytes body) (packed_bits (bits_of_fields (fields (length body))) (fields-are (fields (length body))))
+    ∙ ap (λ l. aligned (bits_of_fields (fields (length body))) ++ l) (pieces_linked (finest_packet h coefficients) (packet_bits r precinct) (packets_of h precinct) no_place one)
+    ∙ ap (λ n. aligned (bits_of_fields (fields n)) ++ body_bits r precinct) (pieces_sized (finest_packet h coefficients) (packet_size r precinct) (packets_of h precinct) no_place sized)
+    )
+  where
+    there : (k : ℕ) → k < length (packets_of r.layout precinct) → AreThere r.layout precinct (get_or (packets_of r.layout precinct) k no_place)
+    there k inside band has = packets_have_lines r.layout precinct k band ranges inside has
+
+    same : (k : ℕ) → k < length (packets_of r.layout precinct) → let place = get_or (packets_of r.layout precinct) k no_place in finest_packet r.layout coefficients place ≡ packet_of (packed (packet_counts r precinct place)) (packed (packet_numbers r precinct place))
+    same k inside = packet_same r coefficients precinct (get_or (packets_of r.layout precinct) k no_place) room shown (there k inside)
+
+    one : (k : ℕ) → k < length (packets_of r.layout precinct) → let place = get_or (packets_of r.layout precinct) k no_place in bits_of_bytes (finest_packet r.layout coefficients place) ≡ packet_bits r precinct place
+    one k inside = ap bits_of_bytes (same k inside) ∙ packet_linked r precinct (get_or (packets_of r.layout precinct) k no_place)
+
+    sized : (k : ℕ) → k < length (packets_of r.layout precinct) → let place = get_or (packets_of r.layout precinct) k no_place in length (finest_packet r.layout coefficients place) ≡ packet_size r precinct place
+    sized k inside = ap length (same k inside) ∙ packet_sized r precinct (get_or (packets_of r.layout precinct) k no_place)

@@ -1,91 +1,75 @@
 -- Bytes have one picture.
-use Rattle.std.proofs.Common.{◌≡◌, ℕ, zero, suc, ◌+◌, ◌-◌, ◌*◌, ◌/◌, ◌<◌, ◌≤◌, List, [], ◌∷◌, take, drop, length, min, refl, sym, ap, subst, ◌∙◌, arith, length-drop}
-use Rattle.std.specs.Prelude.{Bool, if◌then◌else◌, nat_lt, pos}
-use Rattle.std.specs.List.{AllByRecursion}
+use Rattle.std.proofs.Common.{◌≡◌, ℕ, zero, suc, ◌/◌, ◌<◌, List, [], ◌∷◌, take, drop, length, get_or, sym, ap, subst, ◌∙◌, arith, length-drop}
+use Rattle.std.specs.Prelude.{if◌then◌else◌, nat_lt, pos}
+use Rattle.std.specs.List.{AllByRecursion, Contains}
 use Rattle.std.proofs.lemmas.List.{take-append-drop}
 use Rattle.xs_lists.specs.Spelling.{upto}
 use Rattle.xs_lists.proofs.Each.{all-range}
-use Rattle.xs_layout.specs.declared.Weight.{Weight}
 use Rattle.xs_params.specs.declared.header.Header.{Header}
 use Rattle.xs_signal.specs.Quantiser.{dequantised}
-use Rattle.xs_grammar.specs.Geometry.{bands_of, band_width_of, band_height_of, packet_bands, precincts_of, precinct_count, slice_count}
+use Rattle.xs_grammar.specs.Geometry.{bands_of, band_width_of, packet_bands, packets_of, precincts_of, slice_count}
 use Rattle.xs_grammar.specs.Header.{IsAccepted}
-use Rattle.xs_grammar.specs.Precinct.{Content, line_truncation}
+use Rattle.xs_grammar.specs.Precinct.{Content, line_truncation, precinct_of}
 use Rattle.xs_grammar.specs.Laws.{SameBandLine, SamePrecinct}
+use Rattle.xs_grammar.proofs.OneSlice.{truncation_at}
 use Rattle.xs_grammar.proofs.OneStream.{one_codestream}
-use Rattle.xs_geometry.specs.SliceLines.{slice_height}
-use Rattle.xs_decoding.specs.Built.{HasBuiltValues}
+use Rattle.xs_geometry.specs.Lines.{HoldsLine}
+use Rattle.xs_geometry.specs.Places.{packet_at, no_place}
+use Rattle.xs_geometry.proofs.PacketLines.{line_in_one_packet}
+use Rattle.xs_geometry.proofs.WrittenRows.{accepted_ranges}
 use Rattle.xs_decoding.specs.Decoded.{IsDecodingOf}
 use Rattle.xs_decoding.specs.Dequantised.{dequantised_rows}
 use Rattle.xs_decoding.specs.Laws.{SameWithin}
+use Rattle.xs_decoding.proofs.Packets.{IsHere, places_here}
 use Rattle.xs_decoding.proofs.Within.{decoded_within}
-use Rattle.xs_slice_read.proofs.Plain.{grey, own_truncation, packets_are, place_of}
-use Rattle.xs_slice_read.proofs.Slices.{for_grey}
-use Rattle.xs_picture.proofs.Coverage.{slice_there}
-use Rattle.xs_picture.proofs.SlicesRead.{below_of, above_of, height_is}
 use Rattle.xs_picture.specs.OnePicture.{OnePicture}
 
--- the precinct of a line is among those of its slice
-in_slice : (hsl line count slice : ℕ) → 1 ≤ hsl → line < count → slice ≡ line / hsl → (slice * hsl ≤ line) × (line < slice * hsl + (min ((slice + 1) * hsl) count - slice * hsl))
-in_slice hsl line count slice some inside e =
-    let low = above_of line hsl slice some (omega (arith, e)) in
-    let high = below_of line hsl (slice + 1) some (omega (arith, e)) in
-    (low, omega (arith, low, high, inside))
+-- two contents that agree on the lines of a precinct have the same rows there
+rows_one : (h : Header) (content other : Content) (band line column precinct : ℕ) → column < band_width_of h band → precinct_of h band line ≡ precinct → SamePrecinct h content other precinct
+    → SameBandLine h content other band line → dequantised_rows h content band line column ≡ dequantised_rows h other band line column
+rows_one h content other band line column precinct within here same one =
+    ap (λ v. if nat_lt column (band_width_of h band) then v else pos 0)
+    (ap (λ c. dequantised h.quant c (line_truncation h content band line) (content.value band line column)) (one.counts (column / 4) (omega (arith, within)))
+    ∙ ap (λ t. dequantised h.quant (other.count band line (column / 4)) t (content.value band line column)) (truncation_at h content other band line precinct here same.q same.r)
+    ∙ ap (λ v. dequantised h.quant (other.count band line (column / 4)) (line_truncation h other band line) v) (one.values column (omega (arith, within))))
 
--- two contents that agree on a precinct have the same rows there
-abbrev pub RowsOne : Header → Type 0
-RowsOne h = (content other : Content) (band line column : ℕ) → band < bands_of h → line < h.shape.height → column < band_width_of h band → SamePrecinct h content other line
-    → dequantised_rows h content band line column ≡ dequantised_rows h other band line column
+-- what holds of all holds of one of them
+all_at : {A : Type 0} (P : A → Type 0) (xs : List A) (k : ℕ) (d : A) → AllByRecursion P xs → k < length xs → P (get_or xs k d)
+all_at P [] k d h there = absurd (omega (arith, there))
+all_at P (x ∷ xs) zero d h there = h.0
+all_at P (x ∷ xs) (suc k) d h there = all_at P xs k d h.1 (omega (arith, there))
 
-module _ (lcod width height hsl bw fq : ℕ) (long : Bool) (weights : List Weight) where
-  rows_grey : RowsOne (grey lcod width height hsl bw fq long weights)
-  rows_grey content other band line column inside there within same =
-      ap (λ v. if nat_lt column (band_width_of H band) then v else pos 0)
-      (ap (λ c. dequantised H.quant c (line_truncation H content band line) (content.value band line column)) (one.counts (column / 4) (omega (arith, within)))
-      ∙ ap (λ t. dequantised H.quant (other.count band line (column / 4)) t (content.value band line column)) truncation
-      ∙ ap (λ v. dequantised H.quant (other.count band line (column / 4)) (line_truncation H other band line) v) (one.values column (omega (arith, within))))
-    where
-      H : Header
-      H = grey lcod width height hsl bw fq long weights
+all_has : {A : Type 0} (P : A → Type 0) (xs : List A) (x : A) → AllByRecursion P xs → Contains xs x → P x
+all_has P xs x h has = subst P has.2 (all_at P xs has.0 x h has.1)
 
-      lines : AllByRecursion (λ place. AllByRecursion (λ band. SameBandLine H content other band place.line) (packet_bands H place)) (place_of line ∷ [])
-      lines = subst (AllByRecursion (λ place. AllByRecursion (λ band. SameBandLine H content other band place.line) (packet_bands H place))) (packets_are lcod width height hsl bw fq long weights line there) same.lines
-
-      at : (band : ℕ) → band < 2 → SameBandLine H content other band line
-      at zero inside = lines.0.0
-      at (suc zero) inside = lines.0.1.0
-      at (suc (suc band)) inside = absurd (omega (arith, inside))
-
-      one : SameBandLine H content other band line
-      one = at band inside
-
-      truncation : line_truncation H content band line ≡ line_truncation H other band line
-      truncation = own_truncation H content band line (other.q line) (other.r line) refl same.q same.r ∙ sym (own_truncation H other band line (other.q line) (other.r line) refl refl refl)
-
-abbrev pub WithinOne : Header → Type 0
-WithinOne h = (content other : Content) → IsAccepted h → AllByRecursion (λ slice. AllByRecursion (SamePrecinct h content other) (precincts_of h slice)) (upto (slice_count h))
+-- two contents that agree on all precincts have the same rows
+within_one : (h : Header) (content other : Content) → IsAccepted h → AllByRecursion (λ slice. AllByRecursion (SamePrecinct h content other) (precincts_of h slice)) (upto (slice_count h))
     → SameWithin h (dequantised_rows h content) (dequantised_rows h other)
-
-within_grey : (lcod width height hsl bw fq : ℕ) (long : Bool) (weights : List Weight) → WithinOne (grey lcod width height hsl bw fq long weights)
-within_grey lcod width height hsl bw fq long weights content other accepted same band line column inside there within =
-    let H = grey lcod width height hsl bw fq long weights in
-    let high = slice_there H band line accepted inside there in
-    let each : slice_height H band ≡ hsl = height_is H band refl in
-    let slice = line / slice_height H band in
-    let here : slice ≡ line / hsl = ap (λ d. line / d) each in
-    let below : line < height = lines_below band inside there in
-    let range = in_slice hsl line (precinct_count H) slice accepted.hsl (omega (arith, below)) here in
-    let precincts = all-range (λ slice. AllByRecursion (SamePrecinct H content other) (precincts_of H slice)) 0 (slice_count H) same slice (omega arith) (omega (arith, high)) in
-    let one = all-range (SamePrecinct H content other) (slice * hsl) (min ((slice + 1) * hsl) (precinct_count H) - slice * hsl) precincts line range.0 range.1 in
-    rows_grey lcod width height hsl bw fq long weights content other band line column inside below within one
+within_one h content other accepted same band line column inside there within =
+    rows_one h content other band line column precinct within here.0 one (subst (SameBandLine h content other band) holds.line_is line_same)
   where
-    lines_below : (band : ℕ) → band < 2 → line < band_height_of (grey lcod width height hsl bw fq long weights) band → line < height
-    lines_below zero inside there = omega (arith, there)
-    lines_below (suc zero) inside there = omega (arith, there)
-    lines_below (suc (suc band)) inside there = absurd (omega (arith, inside))
+    found : (slice precinct number : ℕ) × HoldsLine h band line slice precinct number
+        × ((s p n : ℕ) → HoldsLine h band line s p n → (s ≡ slice) × (p ≡ precinct) × (n ≡ number))
+    found = line_in_one_packet h band line (accepted_ranges h accepted).0 inside there
 
-within_one : (h : Header) → HasBuiltValues h → WithinOne h
-within_one h built = for_grey WithinOne within_grey h built
+    precinct : ℕ
+    precinct = found.1
+
+    holds : HoldsLine h band line found.0 found.1 found.2
+    holds = found.3
+
+    one : SamePrecinct h content other found.1
+    one = all_has (SamePrecinct h content other) (precincts_of h found.0) found.1
+        (all-range (λ slice. AllByRecursion (SamePrecinct h content other) (precincts_of h slice)) 0 (slice_count h) same found.0 (omega arith) (omega (arith, holds.slice_there))) holds.precinct_in
+
+    line_same : SameBandLine h content other band (packet_at h found.1 found.2).line
+    line_same = all_has (λ band. SameBandLine h content other band (packet_at h found.1 found.2).line) (packet_bands h (packet_at h found.1 found.2)) band
+        (all_at (λ place. AllByRecursion (λ band. SameBandLine h content other band place.line) (packet_bands h place)) (packets_of h found.1) found.2 no_place one.lines holds.number_there) holds.band_in
+
+    here : (precinct_of h band line ≡ found.1) × (band < bands_of h)
+    here = subst (λ line. (precinct_of h band line ≡ found.1) × (band < bands_of h)) holds.line_is
+        (all_has (λ band. (precinct_of h band (packet_at h found.1 found.2).line ≡ found.1) × (band < bands_of h)) (packet_bands h (packet_at h found.1 found.2)) band
+        (all_at (IsHere h found.1) (packets_of h found.1) found.2 no_place (places_here h found.1 (omega (arith, accepted.nly))) holds.number_there) holds.band_in)
 
 pub one_picture : OnePicture
 one_picture h other content contents bytes n m picture p q decoded = (
@@ -106,4 +90,4 @@ one_picture h other content contents bytes n m picture p q decoded = (
     lengths = omega (arith, p.0, q.0, ap length one.0, length-drop n bytes, length-drop m bytes)
 
     same : SameWithin h (dequantised_rows h content) (dequantised_rows h contents)
-    same = within_one h p.1.headed.values content contents p.1.spelled.headed.accepted one.2
+    same = within_one h content contents p.1.spelled.headed.accepted one.2

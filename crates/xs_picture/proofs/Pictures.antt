@@ -1,13 +1,12 @@
 -- Headers and slices of what is built.
-use Rattle.std.proofs.Common.{◌≡◌, ℕ, ◌+◌, ◌-◌, ◌/◌, ◌<◌, ◌≤◌, List, [], ◌∷◌, ◌++◌, length, map, refl, sym, ap, subst, ◌∙◌, arith, inl, inr}
-use Rattle.std.specs.Prelude.{All, Ok, Err}
+use Rattle.std.proofs.Common.{◌≡◌, ℕ, ◌+◌, ◌<◌, ◌≤◌, List, [], ◌∷◌, ◌++◌, length, map, refl, sym, ap, subst, ◌∙◌, arith, inl, inr, pos}
+use Rattle.std.specs.Prelude.{⊤, All, Result, Ok, Err, IfErr, MatchResult}
 use Rattle.std.proofs.Common.{get_or}
 use Rattle.std.proofs.lemmas.Bool.{cases_eq}
 use Rattle.std.proofs.lemmas.List.FromFn.{map-range_with_len_more, length-map-range_with_len, get_or-map-range_with_len}
 use Rattle.xs_faults.specs.declared.SliceRefusal.{SliceRefusal}
 use Rattle.xs_faults.specs.declared.SliceRefusal.TheVariants as refusal
 use Rattle.xs_grammar.specs.Coded.{header_bytes}
-use Rattle.xs_rate.proofs.Grey.{built-header, grey-length}
 use Rattle.xs_picture.specs.Encoded.{IsEncoding, IsOver, IsRefusal}
 use Rattle.xs_lists.specs.Spelling.{upto}
 use Rattle.xs_layout.specs.Candidates.{finest}
@@ -22,10 +21,9 @@ use Rattle.xs_grammar.specs.Header.{IsAccepted}
 use Rattle.xs_rate.specs.Coefficients.{Rows, rows_of}
 use Rattle.xs_rate.specs.Encoding.{IsBuilt, encoding_of, slice_at, slices_at, size_at, coarsest, stream_of, with_length}
 use Rattle.xs_rate.specs.Encoded.{NoneOver, IsFirstOver}
-use Rattle.xs_rate.specs.Grey.{IsOneCandidate, AreGreySlices}
-use Rattle.xs_rate.proofs.GreySlices.{one_candidate, grey_slices}
+use Rattle.xs_rate.specs.WrittenOut.{IsOneCandidate, AreFinestSlices}
+use Rattle.xs_rate.proofs.GreySlices.{one_candidate, finest_slices}
 use Rattle.xs_rate.proofs.FirstOver.{first_over_law}
-use Rattle.xs_picture.proofs.Lines.{small}
 
 -- the header of what is built can be written, whatever length it states
 pub accepted : (s : Settings) (n : ℕ) → IsBuilt s → AreInRange s → length (header_of s).weights ≡ bands_of (header_of s) → IsAccepted (with_length (header_of s) n)
@@ -37,19 +35,13 @@ accepted s n built range weights = record {
   hsl = range.least_height;
   bits = (refl, refl);
   colour = λ coloured. absurd (cc (coloured, built.colour));
-  nlx = (range.some_across, omega (arith, built.across));
-  nly = omega (arith, built.down);
+  nlx = (range.some_across, range.across);
+  nly = range.down;
   slices = range.slices;
   run_mode = omega arith;
   narrow = range.narrowest;
   weights = weights;
 }
-
--- how many slices there are
-pub count_is : (s : Settings) (picture : Picture) (height : ℕ) → IsBuilt s → AreInRange s → height ≡ s.hsl → (s.shape.height + height - 1) / height ≡ slice_count (header_of s)
-count_is s picture height built range high =
-    let known : AreGreySlices (header_of s) (rows_of (header_of s) picture) = grey_slices s (rows_of (header_of s) picture) built range (small s picture) in
-    ap (λ n. (s.shape.height + n - 1) / n) high ∙ sym known.count
 
 -- one more slice
 pub slices_more : (f : ℕ → List ℕ) (slices : List (List ℕ)) (slice : ℕ) (bytes : List ℕ) → slices ≡ map f (upto slice) → bytes ≡ f slice → slices ++ (bytes ∷ []) ≡ map f (upto (slice + 1))
@@ -114,8 +106,11 @@ within_more h rows share slice bytes are short before k below = elim (cases_eq k
 ]
 
 -- the header of what is built is short
-pub header_short : (s : Settings) (h : Header) → IsBuilt s → h ≡ header_of s → length (header_bytes h) ≡ 48
-header_short s h built same = ap (λ x. length (header_bytes x)) (same ∙ built-header s built) ∙ grey-length 0 s.shape.width s.shape.height s.hsl
+pub header_short : (s : Settings) (h : Header) → IsBuilt s → AreInRange s → h ≡ header_of s → length (header_bytes h) ≤ 64
+header_short s h built range same =
+    let none : Rows = λ band line column. pos 0 in
+    let known : AreFinestSlices (header_of s) none = finest_slices s none built range (λ band line column. omega arith) in
+    omega (arith, ap (λ x. length (header_bytes x)) same, known.header 0, known.bands)
 
 -- the header that was made, with any length
 pub accepted_header : (s : Settings) (h : Header) (n : ℕ) → IsBuilt s → AreInRange s → h ≡ header_of s → length h.weights ≡ bands_of (header_of s) → IsAccepted (with_length h n)
@@ -126,3 +121,12 @@ accepted_header s h n built range same weights =
 pub refusal_encodes : (s : Settings) (picture : Picture) (why : SliceRefusal) → IsRefusal (header_of s) (rows_of (header_of s) picture) s.share why → IsEncoding (encoding_of s picture) (Err why)
 refusal_encodes s picture (refusal.Budget budget) first = refused s picture budget first
 refusal_encodes s picture refusal.Memory first = tt
+
+-- why a slice that is over its share was not written
+pub over_is : (h : Header) (rows : Rows) (share slice asked : ℕ) (bytes : List ℕ) (why : SliceRefusal) → bytes ≡ slice_at h rows slice finest → asked ≡ share
+    → (why ≡ refusal.Budget (record { slice = slice; size = length bytes; share = asked })) × (asked < length bytes) → IsOver h rows share slice why
+over_is h rows share slice asked bytes why are same over = subst (IsOver h rows share slice) (sym over.0) (refl, ap length are, same, omega (arith, ap length are, same, over.1))
+
+pub err_only : {A E : Type 0} (r : Result A E) (P Q : E → Type 0) → ((e : E) → P e → Q e) → IfErr r P → MatchResult r (λ _. ⊤) Q
+err_only (Ok x) P Q f given = tt
+err_only (Err e) P Q f given = f e given

@@ -1,5 +1,5 @@
 -- What is written at mode 0 is of the form that is read.
-use Rattle.std.proofs.Common.{◌≡◌, ℕ, ◌+◌, ◌<◌, ◌^◌, List, [], ◌∷◌, ◌++◌, map, length, refl, sym, ap, subst, ◌∙◌, arith, inr, append-nil}
+use Rattle.std.proofs.Common.{◌≡◌, ℕ, ◌+◌, ◌<◌, ◌^◌, List, [], ◌∷◌, ◌++◌, ◌*◌, map, length, refl, sym, ap, subst, ◌∙◌, arith, inr, append-nil, length-append}
 use Rattle.std.specs.Prelude.{Bool, true, false, nat_lt, Ok}
 use Rattle.std.specs.List.{flat_map, list_all, sum_by, concat, AllByRecursion}
 use Rattle.std.proofs.Math.Path.{fun_ext}
@@ -16,6 +16,7 @@ use Rattle.xs_lists.proofs.Packing.{spells_packed}
 use Rattle.xs_lists.proofs.Walk.{all-of_map}
 use Rattle.xs_layout.specs.Candidates.{finest}
 use Rattle.xs_layout.specs.Geometry.{PacketPlace}
+use Rattle.xs_layout.specs.declared.Weight.{Weight}
 use Rattle.xs_params.specs.declared.header.Header.{Header}
 use Rattle.xs_params.specs.Headers.{header_of}
 use Rattle.xs_params.specs.Stream.{Stream, stream_bytes, end_marker}
@@ -24,19 +25,19 @@ use Rattle.xs_grammar.specs.Geometry.{bands_of, packet_bands, packets_of, precin
 use Rattle.xs_grammar.specs.Packet.{packet_fields}
 use Rattle.xs_grammar.specs.Precinct.{Content, IsPrecinct, SpellsPacket, precinct_fields}
 use Rattle.xs_grammar.specs.Slice.{IsSlice}
-use Rattle.xs_grammar.specs.Coded.{field_bytes, lines_fields, packet_line, packet_bytes, packet_fits, precinct_body, precinct_bytes, precinct_fits, slice_bytes, slice_fits, header_bytes, flags_part, counts_part, data_part, signs_part, IsWritable, IsWritableLine, IsWritablePrecinct}
+use Rattle.xs_grammar.specs.Coded.{field_bytes, lines_fields, packet_line, packet_bytes, packet_fits, precinct_body, precinct_bytes, precinct_fits, slice_bytes, slice_fits, header_bytes, flags_part, counts_part, data_part, signs_part, HasRoom, IsWritable, IsWritableLine, IsWritablePrecinct}
+use Rattle.xs_grammar.specs.Header.{IsHeader}
 use Rattle.xs_grammar.proofs.Coded.{widths, list_all-all, fits-room, fields_whole, packet_coded, writable_everywhere}
 use Rattle.xs_rate.specs.Coefficients.{Rows, rows_of}
 use Rattle.xs_rate.specs.Content.{content_of}
-use Rattle.xs_rate.specs.Encoding.{content_at, slice_at, stream_of, encoding_of}
+use Rattle.xs_rate.specs.Encoding.{content_at, slice_at, slices_at, stream_of, encoding_of, with_length, chosen_candidate}
 use Rattle.xs_rate.specs.Encoded.{NoneOver, chosen_content, chosen_stream, stated_header, IsEncoding}
 use Rattle.xs_rate.specs.Laws.{AreSmall}
 use Rattle.xs_rate.proofs.Rows.{small_rows}
-use Rattle.xs_rate.proofs.Grey.{grey, built-header, grey-length}
-use Rattle.xs_rate.proofs.Fits.{grey-fits, joined-stream, length-stream}
-use Rattle.xs_rate.proofs.Encoded.{line-writable, chosen-finest, encoded_in_grammar}
+use Rattle.xs_rate.proofs.Fits.{coarsest_fits, joined-stream}
 use Rattle.xs_rate.proofs.FirstOver.{first_over_law}
-use Rattle.xs_rate.proofs.GreySlices.{one_candidate}
+use Rattle.xs_rate.proofs.Encoded.{line-writable, chosen-finest, encoded_in_grammar}
+use Rattle.xs_rate.proofs.GreySlices.{finest_slices}
 use Rattle.xs_markers.proofs.ReadAgain.{written_built}
 use Rattle.xs_decoding.specs.Built.{IsBuiltHeader, IsBuiltPacket, IsBuiltPrecinct, IsBuiltSlice, IsBuiltStream}
 use Rattle.xs_picture.specs.ReadAgain.{EncodedIsRead}
@@ -139,113 +140,120 @@ slice_built h content slice plain index can fits = record {
 concat_map : {A : Type 0} (f : A → List ℕ) (xs : List A) → concat (map f xs) ≡ flat_map f xs
 concat_map f xs = concat_is (map f xs) ∙ flat_map-map (λ l. l) f xs
 
-grey_read : (width height hsl share : ℕ) (rows : Rows) → AreSmall rows → IsEncoding (grey 0 width height hsl) rows share (chosen_stream (grey 0 width height hsl) rows share)
-    → IsBuiltStream (stated_header (grey 0 width height hsl) (chosen_stream (grey 0 width height hsl) rows share)) (chosen_content (grey 0 width height hsl) rows share) (stream_bytes (chosen_stream (grey 0 width height hsl) rows share))
-grey_read width height hsl share rows small encoded =
-    subst (λ stream. IsEncoding h rows share stream → IsBuiltStream (stated_header h stream) (chosen_content h rows share) (stream_bytes stream)) (sym same)
-    (λ enc. subst (λ content. IsBuiltStream (stated_header h stream) content (stream_bytes stream)) (sym contents) (go enc)) encoded
-  where
-    h : Header
-    h = grey 0 width height hsl
+-- the weights of a header that is spelled have room
+weights_room : (weights : List Weight) → HaveRoom (flat_map (λ (weight : Weight). (8, weight.gain) ∷ (8, weight.priority) ∷ []) weights)
+    → AllByRecursion (λ (weight : Weight). weight.gain < 2 ^ 8) weights × AllByRecursion (λ (weight : Weight). weight.priority < 2 ^ 8) weights
+weights_room [] room = (tt, tt)
+weights_room (weight ∷ weights) room = let others = weights_room weights room.1.1 in ((room.0, others.0), (room.1.0, others.1))
 
-    count : ℕ
-    count = slice_count (grey 0 width height hsl)
-
-    slice_of : ℕ → List ℕ
-    slice_of slice = slice_at h rows slice finest
-
-    stream : Stream
-    stream = stream_of h (map slice_of (upto count))
-
-    same : chosen_stream h rows share ≡ stream
-    same = ap (stream_of h) (one_candidate h rows share).slices
-
-    content : Content
-    content = content_at h rows finest
-
-    contents : chosen_content h rows share ≡ content
-    contents = ap (content_of h rows) (fun_ext (chosen-finest h rows share))
-
-    total : ℕ
-    total = length (stream_bytes stream)
-
-    H : Header
-    H = grey total width height hsl
-
-    size : ℕ
-    size = length (header_bytes h) + sum_by length (map slice_of (upto count)) + 2
-
-    sum : length (concat (map slice_of (upto count))) ≡ sum_by length (map slice_of (upto count))
-    sum = ap length (concat_is (map slice_of (upto count))) ∙ length-flat_map (λ l. l) (map slice_of (upto count))
-
-    states : total ≡ size
-    states = omega (arith, length-stream stream, grey-length size width height hsl, grey-length 0 width height hsl, sum)
-
-    go : IsEncoding h rows share stream → IsBuiltStream H content (stream_bytes stream)
-    go enc = record {
-      spelled = record {
-        header = header_bytes H;
-        slices = concat (map slice_of (upto count));
-        joined = joined-stream stream ∙ ap (λ n. header_bytes (grey n width height hsl) ++ (concat (map slice_of (upto count)) ++ end_marker)) (sym states);
-        headed = headed.spelled;
-        spelled = each-same (IsBuiltSlice H content) (IsSlice H content) (upto count) (concat (map slice_of (upto count))) (all-spelled (upto count)) slices;
-        stated = inr refl;
-      };
-      headed = headed;
-      slices = slices;
-    }
-      where
-        headed : IsBuiltHeader H (header_bytes H)
-        headed = written_built H enc.whole.headed.accepted
-            (record {
-              lcod = enc.whole.headed.said.picture_is.room.0;
-              hsl = enc.whole.headed.said.picture_is.room.1.1.1.1.1.1.0;
-              gains = (omega arith, (omega arith, tt));
-              priorities = (omega arith, (omega arith, tt));
-            })
-            (record { format = refl; depth = refl; colour = refl; across = refl; down = refl; quant = refl; signs = refl; runs = refl })
-
-        one : (slice : ℕ) → slice < count → IsBuiltSlice H content slice (slice_of slice)
-        one slice inside =
-            let few = enc.whole.headed.accepted.slices in
-            let wide = enc.whole.headed.accepted.width in
-            slice_built H content slice refl (omega (arith, inside, few))
-            (writable_everywhere H content (λ _ _. 0) slice (λ precinct. (omega arith, omega arith)) (λ precinct band. omega arith) (line-writable H rows (λ _. finest) small))
-            (grey-fits total width height hsl slice rows wide.1 small)
-
-        all-spelled : (xs : List ℕ) → AllByRecursion (λ x. (l : List ℕ) → IsBuiltSlice H content x l → IsSlice H content x l) xs
-        all-spelled [] = tt
-        all-spelled (x ∷ xs) = (λ l built. built.spelled, all-spelled xs)
-
-        slices : SpellsEach (IsBuiltSlice H content) (upto count) (concat (map slice_of (upto count)))
-        slices = subst (SpellsEach (IsBuiltSlice H content) (upto count)) (sym (concat_map slice_of (upto count)))
-            (each-made (IsBuiltSlice H content) slice_of (upto count) (range-all (λ slice. IsBuiltSlice H content slice (slice_of slice)) 0 count (λ slice low high. one slice (omega (arith, high)))))
+header_room : (h : Header) (bytes : List ℕ) → IsHeader h bytes → HasRoom h
+header_room h bytes p =
+    let weights = weights_room h.weights p.said.weight_is.room in
+    record { lcod = p.said.picture_is.room.0; hsl = p.said.picture_is.room.1.1.1.1.1.1.0; gains = weights.0; priorities = weights.1 }
 
 pub encoded_is_read : EncodedIsRead
 encoded_is_read s picture stream built range e =
-    subst (λ given. IsBuiltStream (stated_header (header_of s) given) (chosen_content (header_of s) rows s.share) (stream_bytes given)) (sym same) (read (encoded_in_grammar s picture chosen built range ok))
+    subst (λ given. IsBuiltStream (stated_header h given) (chosen_content h rows s.share) (stream_bytes given)) (sym given)
+    (subst (λ content. IsBuiltStream H content (stream_bytes stated)) (sym contents) whole)
   where
+    h : Header
+    h = header_of s
+
     rows : Rows
     rows = rows_of (header_of s) picture
 
-    chosen : Stream
-    chosen = chosen_stream (header_of s) rows s.share
+    count : ℕ
+    count = slice_count (header_of s)
 
+    slice_of : ℕ → List ℕ
+    slice_of slice = slice_at (header_of s) rows slice finest
+
+    slices : List ℕ
+    slices = concat (map slice_of (upto count))
+
+    stated : Stream
+    stated = stream_of (header_of s) (map slice_of (upto count))
+
+    content : Content
+    content = content_at (header_of s) rows finest
+
+    alike : chosen_candidate h rows s.share ≡ (λ _. finest)
+    alike = fun_ext (chosen-finest h rows s.share)
+
+    contents : chosen_content h rows s.share ≡ content
+    contents = ap (content_of h rows) alike
+
+    chosen : chosen_stream h rows s.share ≡ stated
+    chosen = ap (λ candidate. stream_of h (slices_at h rows candidate)) alike
+
+    -- what is given is the codestream of the chosen candidates
     none : NoneOver (header_of s) rows s.share
     none = (first_over_law.encoded s picture).0 (stream, e)
 
-    ok : encoding_of s picture ≡ Ok chosen
+    ok : encoding_of s picture ≡ Ok (chosen_stream h rows s.share)
     ok = first_over_law.given s picture none
 
-    same : stream ≡ chosen
-    same = let both = sym e ∙ ok in cc both
+    given : stream ≡ stated
+    given = let both = sym e ∙ ok in let same : stream ≡ chosen_stream h rows s.share = cc both in same ∙ chosen
+
+    enc : IsEncoding h rows s.share stated
+    enc = subst (IsEncoding h rows s.share) given (encoded_in_grammar s picture stream built range e)
 
     small : AreSmall rows
     small band line column = let most = small_rows (header_of s) picture band line column in omega (arith, most)
 
-    Read : Header → Type 0
-    Read h = IsEncoding h rows s.share (chosen_stream h rows s.share)
-        → IsBuiltStream (stated_header h (chosen_stream h rows s.share)) (chosen_content h rows s.share) (stream_bytes (chosen_stream h rows s.share))
+    -- the length that is stated
+    total : ℕ
+    total = length (stream_bytes stated)
 
-    read : Read (header_of s)
-    read = subst Read (sym (built-header s built)) (grey_read s.shape.width s.shape.height s.hsl s.share rows small)
+    H : Header
+    H = with_length (header_of s) total
+
+    size : ℕ
+    size = length (header_bytes (header_of s)) + sum_by length (map slice_of (upto count)) + 2
+
+    joined : stream_bytes stated ≡ header_bytes (with_length (header_of s) size) ++ (slices ++ end_marker)
+    joined = joined-stream stated
+
+    lengths : (lcod : ℕ) → length (header_bytes (with_length h lcod)) ≡ 44 + 2 * bands_of h
+    lengths = (finest_slices s rows built range small).header
+
+    states : total ≡ size
+    states =
+        let sum : length slices ≡ sum_by length (map slice_of (upto count)) = ap length (concat_is (map slice_of (upto count))) ∙ length-flat_map (λ l. l) (map slice_of (upto count)) in
+        let first : length (header_bytes (with_length h size)) ≡ 44 + 2 * bands_of h = lengths size in
+        let blank : length (header_bytes h) ≡ 44 + 2 * bands_of h = lengths 0 in
+        omega (arith, ap length joined, length-append (header_bytes (with_length h size)) (slices ++ end_marker), length-append slices end_marker, sum, first, blank)
+
+    headed : IsBuiltHeader H (header_bytes H)
+    headed = written_built H enc.whole.headed.accepted (header_room H enc.whole.header enc.whole.headed)
+        (record { format = built.format; depth = built.depth; colour = built.colour; quant = built.quant; signs = built.signs; runs = refl })
+
+    one : (slice : ℕ) → slice < count → IsBuiltSlice H content slice (slice_of slice)
+    one slice inside =
+        let few = enc.whole.headed.accepted.slices in
+        slice_built H content slice refl (omega (arith, inside, few))
+        (writable_everywhere H content (λ _ _. 0) slice (λ precinct. (omega arith, omega arith)) (λ precinct band. omega arith) (line-writable H rows (λ _. finest) small))
+        (coarsest_fits s rows slice built range small)
+
+    all-spelled : (xs : List ℕ) → AllByRecursion (λ x. (l : List ℕ) → IsBuiltSlice H content x l → IsSlice H content x l) xs
+    all-spelled [] = tt
+    all-spelled (x ∷ xs) = (λ l built. built.spelled, all-spelled xs)
+
+    spelled : SpellsEach (IsBuiltSlice H content) (upto count) slices
+    spelled = subst (SpellsEach (IsBuiltSlice H content) (upto count)) (sym (concat_map slice_of (upto count)))
+        (each-made (IsBuiltSlice H content) slice_of (upto count) (range-all (λ slice. IsBuiltSlice H content slice (slice_of slice)) 0 count (λ slice low high. one slice (omega (arith, high)))))
+
+    whole : IsBuiltStream H content (stream_bytes stated)
+    whole = record {
+      spelled = record {
+        header = header_bytes H;
+        slices = slices;
+        joined = joined ∙ ap (λ n. header_bytes (with_length h n) ++ (slices ++ end_marker)) (sym states);
+        headed = headed.spelled;
+        spelled = each-same (IsBuiltSlice H content) (IsSlice H content) (upto count) slices (all-spelled (upto count)) spelled;
+        stated = inr refl;
+      };
+      headed = headed;
+      slices = spelled;
+    }

@@ -1,101 +1,91 @@
 -- Slices that were read one after the other: their contents are put together, since each speaks of its own lines.
-use Rattle.std.proofs.Common.{◌≡◌, ℕ, ◌+◌, ◌-◌, ◌*◌, ◌/◌, ◌<◌, ◌≤◌, ◌^◌, List, [], ◌∷◌, ◌++◌, take, drop, length, get_or, refl, sym, ap, subst, ◌∙◌, arith, append_assoc, length-append, inl, inr}
-use Rattle.std.specs.Prelude.{Bool, if◌then◌else◌, nat_lt, min, pos}
+use Rattle.std.proofs.Common.{◌≡◌, ℕ, ◌+◌, ◌-◌, ◌*◌, ◌/◌, ◌<◌, ◌≤◌, List, [], ◌∷◌, ◌++◌, take, drop, length, get_or, refl, sym, ap, subst, ◌∙◌, arith, append_assoc, length-append, inl, inr}
+use Rattle.std.specs.Prelude.{Bool, true, false, if◌then◌else◌, nat_lt, min, ℤ, pos}
 use Rattle.std.specs.List.{AllByRecursion, range_with_len}
-use Rattle.std.proofs.Math.Nat.{mul-le-mul_right, le-div_iff_mul-le}
+use Rattle.std.proofs.Math.Nat.{mul-le-mul_right, mul_assoc, le-div_iff_mul-le}
 use Rattle.std.proofs.Math.Seq.{get_or-append_seam}
 use Rattle.std.proofs.lemmas.Bool.{lt-ltb, le-ltb, cases_lt}
 use Rattle.std.proofs.lemmas.List.{take-append-drop, get_or_append_left}
+use Rattle.std.proofs.lemmas.Nat.{pow_pos}
 use Rattle.xs_lists.specs.Spelling.{upto, SpellsEach}
 use Rattle.xs_lists.proofs.Each.{each-more, each-same, range-all, range-more}
-use Rattle.xs_layout.specs.Geometry.{ceil_div}
 use Rattle.xs_params.specs.declared.header.Header.{Header}
 use Rattle.xs_signal.specs.Lines.{entries_of}
-use Rattle.xs_grammar.specs.Geometry.{bands_of, band_height_of, precinct_count, precincts_of}
+use Rattle.xs_signal.specs.Quantiser.{dequantised}
+use Rattle.xs_grammar.specs.Geometry.{bands_of, band_height_of, band_type_of, band_width_of, precinct_count, precinct_lines, precincts_of}
 use Rattle.xs_grammar.specs.Header.{IsAccepted}
-use Rattle.xs_grammar.specs.Precinct.{Content, IsPrecinct}
+use Rattle.xs_grammar.specs.Precinct.{Content, IsPrecinct, line_truncation, precinct_of}
+use Rattle.xs_grammar.proofs.OneSlice.{truncation_at}
 use Rattle.xs_geometry.specs.SliceLines.{BandLines, row_at, slice_height, AreLinesOf}
 use Rattle.xs_decoding.specs.Dequantised.{dequantised_rows}
-use Rattle.xs_decoding.specs.Built.{HasBuiltValues, IsBuiltPrecinct, IsBuiltSlice}
+use Rattle.xs_decoding.specs.Built.{IsBuiltPrecinct, IsBuiltSlice}
+use Rattle.xs_decoding.specs.Laws.{AgreeOnPrecinct}
+use Rattle.xs_decoding.proofs.Precincts.{precinct_is_local}
 use Rattle.xs_slice_read.specs.Slice.{IsSliceRead}
-use Rattle.xs_slice_read.proofs.Plain.{is_grey, one_line, AgreeAt}
-use Rattle.xs_slice_read.proofs.Rows.{same_rows, precinct_kept}
 use Rattle.xs_picture.specs.Coefs.{rows_of_slices}
 use Rattle.xs_picture.specs.StreamRead.{AreSlicesRead}
-use Rattle.xs_picture.proofs.Coverage.{lines_some}
+use Rattle.xs_picture.proofs.Coverage.{lines_some, quotient_below}
 
 -- Contents
 
--- the lines before the first one by the old content, the others by the new one
-abbrev pub merged : ℕ → Content → Content → Content
-merged first old new = record {
-  q = λ line. if nat_lt line first then old.q line else new.q line;
-  r = λ line. if nat_lt line first then old.r line else new.r line;
-  count = λ band line. if nat_lt line first then old.count band line else new.count band line;
-  value = λ band line. if nat_lt line first then old.value band line else new.value band line;
+-- the precincts before the first one by the old content, the others by the new one
+abbrev pub merged : Header → ℕ → Content → Content → Content
+merged h first old new = record {
+  q = λ precinct. if nat_lt precinct first then old.q precinct else new.q precinct;
+  r = λ precinct. if nat_lt precinct first then old.r precinct else new.r precinct;
+  count = λ band line. if nat_lt (precinct_of h band line) first then old.count band line else new.count band line;
+  value = λ band line. if nat_lt (precinct_of h band line) first then old.value band line else new.value band line;
 }
 
-pub agree_before : (first line : ℕ) (old new : Content) → line < first → AgreeAt old (merged first old new) line
-agree_before first line old new before =
-    let e = sym (lt-ltb line first before) in
-    record {
-      q = ap (λ (b : Bool). if b then old.q line else new.q line) e;
-      r = ap (λ (b : Bool). if b then old.r line else new.r line) e;
-      counts = λ band. ap (λ (b : Bool). if b then old.count band line else new.count band line) e;
-      values = λ band. ap (λ (b : Bool). if b then old.value band line else new.value band line) e;
-    }
+pub agree_before : (h : Header) (first precinct : ℕ) (old new : Content) → precinct < first → AgreeOnPrecinct h old (merged h first old new) precinct
+agree_before h first precinct old new before = record {
+  q = ap (λ (b : Bool). if b then old.q precinct else new.q precinct) (below precinct refl);
+  r = ap (λ (b : Bool). if b then old.r precinct else new.r precinct) (below precinct refl);
+  count = λ band line here. ap (λ (b : Bool). if b then old.count band line else new.count band line) (below (precinct_of h band line) here);
+  value = λ band line here. ap (λ (b : Bool). if b then old.value band line else new.value band line) (below (precinct_of h band line) here);
+}
+  where
+    below : (k : ℕ) → k ≡ precinct → true ≡ nat_lt k first
+    below k here = sym (lt-ltb k first (omega (arith, before, here)))
 
-pub agree_after : (first line : ℕ) (old new : Content) → first ≤ line → AgreeAt new (merged first old new) line
-agree_after first line old new from =
-    let e = sym (le-ltb line first from) in
-    record {
-      q = ap (λ (b : Bool). if b then old.q line else new.q line) e;
-      r = ap (λ (b : Bool). if b then old.r line else new.r line) e;
-      counts = λ band. ap (λ (b : Bool). if b then old.count band line else new.count band line) e;
-      values = λ band. ap (λ (b : Bool). if b then old.value band line else new.value band line) e;
-    }
+pub agree_after : (h : Header) (first precinct : ℕ) (old new : Content) → first ≤ precinct → AgreeOnPrecinct h new (merged h first old new) precinct
+agree_after h first precinct old new from = record {
+  q = ap (λ (b : Bool). if b then old.q precinct else new.q precinct) (above precinct refl);
+  r = ap (λ (b : Bool). if b then old.r precinct else new.r precinct) (above precinct refl);
+  count = λ band line here. ap (λ (b : Bool). if b then old.count band line else new.count band line) (above (precinct_of h band line) here);
+  value = λ band line here. ap (λ (b : Bool). if b then old.value band line else new.value band line) (above (precinct_of h band line) here);
+}
+  where
+    above : (k : ℕ) → k ≡ precinct → false ≡ nat_lt k first
+    above k here = sym (le-ltb k first (omega (arith, from, here)))
 
 -- Precincts and slices of another content
 
-precinct_moves : (h : Header) (content other : Content) (line : ℕ) (bytes : List ℕ) → HasBuiltValues h → line < h.shape.height → AgreeAt content other line → IsBuiltPrecinct h content line bytes → IsBuiltPrecinct h other line bytes
-precinct_moves h content other line bytes values inside same p =
-    let g = is_grey h values in
-    subst (λ x. IsBuiltPrecinct x other line bytes) (sym g)
-    (precinct_kept h.lcod h.shape.width h.shape.height h.hsl h.bw h.fq h.long_heads h.weights content other line bytes inside same (subst (λ x. IsBuiltPrecinct x content line bytes) g p))
+range_below : (first end count k : ℕ) → first ≤ k → k < first + (min end count - first) → k < end
+range_below first end count k low high = omega (arith, low, high)
 
-whole_count : (n : ℕ) → ceil_div n (2 ^ 0) ≡ n
-whole_count n = omega arith
-
-precincts_whole : (h : Header) → h.nly ≡ 0 → precinct_count h ≡ h.shape.height
-precincts_whole h e = ap (λ n. ceil_div h.shape.height (2 ^ n)) e ∙ whole_count h.shape.height
-
-range_below : (first end count k : ℕ) → first ≤ k → k < first + (min end count - first) → (k < end) × (k < count)
-range_below first end count k low high = (omega (arith, low, high), omega (arith, low, high))
-
--- what holds of the lines of a slice holds of its precincts
-pub each_precinct : (h : Header) (P : ℕ → Type 0) (slice : ℕ) → HasBuiltValues h → ((line : ℕ) → slice * h.hsl ≤ line → line < (slice + 1) * h.hsl → line < h.shape.height → P line) → AllByRecursion P (precincts_of h slice)
-each_precinct h P slice values each =
+-- what holds from a slice's first precinct up to the next slice's holds of its precincts
+pub each_precinct : (h : Header) (P : ℕ → Type 0) (slice : ℕ) → ((precinct : ℕ) → slice * h.hsl ≤ precinct → precinct < (slice + 1) * h.hsl → P precinct) → AllByRecursion P (precincts_of h slice)
+each_precinct h P slice each =
     range-all P (slice * h.hsl) (min ((slice + 1) * h.hsl) (precinct_count h) - slice * h.hsl)
-    (λ k low high.
-    let below = range_below (slice * h.hsl) ((slice + 1) * h.hsl) (precinct_count h) k low high in
-    each k low below.0 (subst (λ n. k < n) (precincts_whole h values.down) below.1))
+    (λ k low high. each k low (range_below (slice * h.hsl) ((slice + 1) * h.hsl) (precinct_count h) k low high))
 
 -- the precincts of a slice move to a content that agrees on it
-pub precincts_move : (h : Header) (content other : Content) (slice : ℕ) → HasBuiltValues h → ((line : ℕ) → slice * h.hsl ≤ line → line < (slice + 1) * h.hsl → AgreeAt content other line)
+pub precincts_move : (h : Header) (content other : Content) (slice : ℕ) → h.nly ≤ h.nlx → ((precinct : ℕ) → slice * h.hsl ≤ precinct → precinct < (slice + 1) * h.hsl → AgreeOnPrecinct h content other precinct)
     → AllByRecursion (λ k. (l : List ℕ) → IsBuiltPrecinct h content k l → IsBuiltPrecinct h other k l) (precincts_of h slice)
-precincts_move h content other slice values same =
-    each_precinct h (λ k. (l : List ℕ) → IsBuiltPrecinct h content k l → IsBuiltPrecinct h other k l) slice values
-    (λ line from to inside l built. precinct_moves h content other line l values inside (same line from to) built)
+precincts_move h content other slice deep same =
+    each_precinct h (λ k. (l : List ℕ) → IsBuiltPrecinct h content k l → IsBuiltPrecinct h other k l) slice
+    (λ precinct from to l built. precinct_is_local h content other precinct l deep (same precinct from to) built)
 
 all_spelled : (h : Header) (content : Content) (xs : List ℕ) → AllByRecursion (λ x. (l : List ℕ) → IsBuiltPrecinct h content x l → IsPrecinct h content x l) xs
 all_spelled h content [] = tt
 all_spelled h content (x ∷ xs) = (λ l built. built.spelled, all_spelled h content xs)
 
-slice_moves : (h : Header) (content other : Content) (slice : ℕ) (bytes : List ℕ) → HasBuiltValues h → ((line : ℕ) → slice * h.hsl ≤ line → line < (slice + 1) * h.hsl → AgreeAt content other line)
-    → IsBuiltSlice h content slice bytes → IsBuiltSlice h other slice bytes
-slice_moves h content other slice bytes values same p =
+slice_moves : (h : Header) (content other : Content) (slice : ℕ) (bytes : List ℕ) → h.nly ≤ h.nlx
+    → ((precinct : ℕ) → slice * h.hsl ≤ precinct → precinct < (slice + 1) * h.hsl → AgreeOnPrecinct h content other precinct) → IsBuiltSlice h content slice bytes → IsBuiltSlice h other slice bytes
+slice_moves h content other slice bytes deep same p =
     let moved : SpellsEach (IsBuiltPrecinct h other) (precincts_of h slice) p.spelled.body =
-    each-same (IsBuiltPrecinct h content) (IsBuiltPrecinct h other) (precincts_of h slice) p.spelled.body (precincts_move h content other slice values same) p.precincts in
+    each-same (IsBuiltPrecinct h content) (IsBuiltPrecinct h other) (precincts_of h slice) p.spelled.body (precincts_move h content other slice deep same) p.precincts in
     record {
       spelled = record {
         index = p.spelled.index;
@@ -107,33 +97,48 @@ slice_moves h content other slice bytes values same p =
     }
 
 -- the first slices move to a content that agrees on them
-pub slices_move : (h : Header) (content other : Content) (count : ℕ) (front : List ℕ) → HasBuiltValues h → ((line : ℕ) → line < count * h.hsl → AgreeAt content other line)
+pub slices_move : (h : Header) (content other : Content) (count : ℕ) (front : List ℕ) → h.nly ≤ h.nlx → ((precinct : ℕ) → precinct < count * h.hsl → AgreeOnPrecinct h content other precinct)
     → SpellsEach (IsBuiltSlice h content) (upto count) front → SpellsEach (IsBuiltSlice h other) (upto count) front
-slices_move h content other count front values same p =
+slices_move h content other count front deep same p =
     each-same (IsBuiltSlice h content) (IsBuiltSlice h other) (upto count) front
     (range-all (λ k. (l : List ℕ) → IsBuiltSlice h content k l → IsBuiltSlice h other k l) 0 count
-    (λ k low high l built. slice_moves h content other k l values (λ line from to. same line (within k line high to)) built)) p
+    (λ k low high l built. slice_moves h content other k l deep (λ precinct from to. same precinct (within k precinct high to)) built)) p
   where
-    within : (k line : ℕ) → k < 0 + count → line < (k + 1) * h.hsl → line < count * h.hsl
-    within k line high to =
+    within : (k precinct : ℕ) → k < 0 + count → precinct < (k + 1) * h.hsl → precinct < count * h.hsl
+    within k precinct high to =
         let less : k + 1 ≤ count = omega (arith, high) in
         let most : (k + 1) * h.hsl ≤ count * h.hsl = mul-le-mul_right h.hsl less in
         omega (arith, to, most)
 
 -- Rows
 
-pub below_of : (n d q : ℕ) → 0 < d → n / d < q → n < q * d
+-- contents that agree on a precinct have the same rows there
+same_rows : (h : Header) (content other : Content) (band line column : ℕ) → AgreeOnPrecinct h content other (precinct_of h band line) → dequantised_rows h content band line column ≡ dequantised_rows h other band line column
+same_rows h content other band line column agree =
+    ap (λ v. if nat_lt column (band_width_of h band) then v else pos 0)
+    (ap (λ (c : ℕ → ℕ). dequantised h.quant (c (column / 4)) (line_truncation h content band line) (content.value band line column)) (agree.count band line refl)
+    ∙ ap (λ t. dequantised h.quant (other.count band line (column / 4)) t (content.value band line column)) (truncation_at h content other band line (precinct_of h band line) refl agree.q agree.r)
+    ∙ ap (λ (v : ℕ → ℤ). dequantised h.quant (other.count band line (column / 4)) (line_truncation h other band line) (v column)) (agree.value band line refl))
+
+below_of : (n d q : ℕ) → 0 < d → n / d < q → n < q * d
 below_of n d q some less =
     elim (cases_lt n (q * d)) [
       | inl below ↦ below
       | inr past ↦ let most : q ≤ n / d = (le-div_iff_mul-le some).1 past in absurd (omega (arith, less, most))
     ]
 
-pub above_of : (n d q : ℕ) → 0 < d → q ≤ n / d → q * d ≤ n
+above_of : (n d q : ℕ) → 0 < d → q ≤ n / d → q * d ≤ n
 above_of n d q some most = (le-div_iff_mul-le some).0 most
 
-pub height_is : (h : Header) (band : ℕ) → h.nly ≡ 0 → slice_height h band ≡ h.hsl
-height_is h band e = let one : h.hsl * 1 ≡ h.hsl = omega arith in ap (λ n. h.hsl * n) (one_line h band e) ∙ one
+-- the precinct of a line that stands before a slice, and of one that does not
+precinct_before : (h : Header) (slice band line : ℕ) → line < slice * slice_height h band → precinct_of h band line < slice * h.hsl
+precinct_before h slice band line below =
+    quotient_below line (precinct_lines h band) (slice * h.hsl) (pow_pos (h.nly - (band_type_of h band).down)) (omega (arith, below, mul_assoc slice h.hsl (precinct_lines h band)))
+
+precinct_after : (h : Header) (slice band line : ℕ) → slice * slice_height h band ≤ line → slice * h.hsl ≤ precinct_of h band line
+precinct_after h slice band line from =
+    let some : 0 < precinct_lines h band = pow_pos (h.nly - (band_type_of h band).down) in
+    (le-div_iff_mul-le some).1 (omega (arith, from, mul_assoc slice h.hsl (precinct_lines h band)))
 
 -- Slices
 
@@ -150,9 +155,9 @@ none_read h slices bytes none = record {
 }
 
 -- one slice more
-pub more_read : (h : Header) (slice : ℕ) (slices : List (List BandLines)) (rows : List BandLines) (bytes rest : List ℕ) (n : ℕ) → IsAccepted h → HasBuiltValues h
+pub more_read : (h : Header) (slice : ℕ) (slices : List (List BandLines)) (rows : List BandLines) (bytes rest : List ℕ) (n : ℕ) → IsAccepted h
     → AreSlicesRead h slice slices bytes rest → IsSliceRead h slice rows rest n → AreSlicesRead h (slice + 1) (slices ++ rows ∷ []) bytes (drop n rest)
-more_read h slice slices rows bytes rest n accepted values so read = record {
+more_read h slice slices rows bytes rest n accepted so read = record {
   content = now;
   front = so.front ++ take n rest;
   joined = so.joined ∙ ap (λ l. so.front ++ l) (sym (take-append-drop n rest)) ∙ sym (append_assoc so.front (take n rest) (drop n rest));
@@ -166,16 +171,19 @@ more_read h slice slices rows bytes rest n accepted values so read = record {
     first = slice * h.hsl
 
     now : Content
-    now = merged first so.content read.content
+    now = merged h first so.content read.content
+
+    deep : h.nly ≤ h.nlx
+    deep = omega (arith, accepted.nly)
 
     order : upto (slice + 1) ≡ upto slice ++ (slice ∷ [])
     order = let here : 0 + slice ≡ slice = omega arith in range-more 0 slice ∙ ap (λ k. range_with_len 0 slice ++ (k ∷ [])) here
 
     earlier : SpellsEach (IsBuiltSlice h now) (upto slice) so.front
-    earlier = slices_move h so.content now slice so.front values (λ line before. agree_before first line so.content read.content before) so.spelled
+    earlier = slices_move h so.content now slice so.front deep (λ precinct before. agree_before h first precinct so.content read.content before) so.spelled
 
     last : IsBuiltSlice h now slice (take n rest)
-    last = slice_moves h read.content now slice (take n rest) values (λ line from to. agree_after first line so.content read.content from) read.spelled
+    last = slice_moves h read.content now slice (take n rest) deep (λ precinct from to. agree_after h first precinct so.content read.content from) read.spelled
 
     seam : get_or (slices ++ rows ∷ []) slice [] ≡ rows
     seam = ap (λ k. get_or (slices ++ rows ∷ []) k []) (sym so.number) ∙ get_or-append_seam slices rows [] []
@@ -197,12 +205,11 @@ more_read h slice slices rows bytes rest n accepted values so read = record {
     shown band line column inside there within =
         let height = slice_height h band in
         let some : 0 < height = lines_some h band accepted in
-        let same : height ≡ h.hsl = height_is h band values.down in
         elim (cases_lt (line / height) slice) [
           | inl less ↦
               let below : line < slice * height = below_of line height slice some less in
               ap (λ (s : List BandLines). entries_of (row_at s band line) column) (kept (line / height) less) ∙ so.shown band line column inside there less
-              ∙ same_rows h so.content now band line column values.down (agree_before first line so.content read.content (subst (λ k. line < slice * k) same below))
+              ∙ same_rows h so.content now band line column (agree_before h first (precinct_of h band line) so.content read.content (precinct_before h slice band line below))
           | inr past ↦
               let here : slice ≡ line / height = omega (arith, within, past) in
               let from : slice * height ≤ line = above_of line height slice some past in
@@ -210,5 +217,5 @@ more_read h slice slices rows bytes rest n accepted values so read = record {
               ap (λ k. entries_of (row_at (get_or (slices ++ rows ∷ []) k []) band line) column) (sym here)
               ∙ ap (λ (s : List BandLines). entries_of (row_at s band line) column) seam
               ∙ read.shown band line column inside (omega (arith, from)) (omega (arith, to, there))
-              ∙ same_rows h read.content now band line column values.down (agree_after first line so.content read.content (subst (λ k. slice * k ≤ line) same from))
+              ∙ same_rows h read.content now band line column (agree_after h first (precinct_of h band line) so.content read.content (precinct_after h slice band line from))
         ]

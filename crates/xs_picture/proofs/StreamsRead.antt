@@ -206,7 +206,7 @@ slices_agree h content other count a b y z below p q e =
     (range-all (λ slice. (a b y z : List ℕ) → IsBuiltSlice h content slice a → IsBuiltSlice h other slice b → a ++ y ≡ b ++ z → (y ≡ z) × ⊤) 0 count
     (λ slice _ _ a b y z p q e. ((one_slice h content other slice a b y z below p.spelled q.spelled e).0, tt))) a b y z p q e).0
 
-below_of : (h : Header) → IsAccepted h → h.nly ≤ h.nlx
+pub below_of : (h : Header) → IsAccepted h → h.nly ≤ h.nlx
 below_of h accepted = let least = accepted.nly in omega (arith, least)
 
 range_split : (first n m : ℕ) → range_with_len first (n + m) ≡ range_with_len first n ++ range_with_len (first + n) m

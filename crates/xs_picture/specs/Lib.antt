@@ -1,7 +1,9 @@
-pub mod LineBands
+pub mod PrecinctRows
+pub mod PacketBits
 pub mod Encoded
 pub mod Coefs
 pub mod Decoding
+pub mod Analysed
 pub mod Reading
 pub mod StreamRead
 pub mod ReadAgain

@@ -1,5 +1,6 @@
 -- The rows of a precinct's lines: 'Band geometry'. They are numbered in the precinct.
-use Rattle.std.specs.Prelude.{◌≡◌, ℕ, ◌-◌, ◌*◌, ◌<◌, ℤ, List, [], length, slice_index_or}
+use Rattle.std.specs.Prelude.{◌≡◌, ℕ, ◌-◌, ◌*◌, ◌<◌, ℤ, List, [], map, length, slice_index_or, Vec}
+use Rattle.std.specs.declared.alloc.Global.{Global}
 use Rattle.xs_layout.specs.Geometry.{groups_of}
 use Rattle.xs_params.specs.declared.header.Header.{Header}
 use Rattle.xs_signal.specs.Lines.{entries_of}
@@ -15,6 +16,15 @@ pub record PrecinctRows : Type 0 where
 -- the row of a band's line with this number in the precinct
 abbrev pub row_in : List (List (List ℤ)) → ℕ → ℕ → List ℤ
 row_in rows band number = slice_index_or (slice_index_or rows band []) number []
+
+-- the rows of each band
+abbrev pub contents : List (Vec (List ℤ) Global) → List (List (List ℤ))
+contents bands = map (λ rows. rows.items) bands
+
+-- so many rows of so many code groups
+pub record AreBlank (groups count : ℕ) (rows : List (List ℤ)) : Type 0 where
+  pub lines : length rows ≡ count
+  pub wide : (number : ℕ) → number < count → length (slice_index_or rows number []) ≡ 4 * groups
 
 -- as many rows for each band as a precinct has lines of it that is not cut, each with the band's code groups
 pub record HaveRoom (h : Header) (rows : List (List (List ℤ))) : Type 0 where

@@ -2,23 +2,27 @@
 ghost use Rattle.std.specs.Prelude.{◌≡◌, ⊤, ℕ, ◌<◌, ◌≤◌, ◌++◌, ◌∷◌, [], IfOk, IfErr, OnOk, MatchResult, All, length, sum_by};
 ghost use Rattle.xs_layout.specs.Candidates.{finest};
 ghost use Rattle.xs_params.specs.Headers.{header_of};
+ghost use Rattle.xs_params.specs.Picture.{Picture};
 ghost use Rattle.xs_grammar.specs.Geometry.{slice_count};
 ghost use Rattle.xs_geometry.specs.Kept.{geometry_of};
 ghost use Rattle.xs_rate.specs.Coefficients.{rows_of};
 ghost use Rattle.xs_rate.specs.Encoding.{IsBuilt, encoding_of, slice_at, slices_at, stream_of};
 ghost use Rattle.xs_rate.specs.Encoded.{NoneOver};
+ghost use Rattle.xs_picture.specs.Analysed.{AreBandsOf, AreGreyPlanes};
 ghost use Rattle.xs_picture.specs.Encoded.{IsEncoding, IsOver, IsRefusal};
 
-use crate::line_rows::LineRows;
+use crate::analysis::component_bands;
+use crate::precinct_rows::PrecinctRows;
 use crate::slice::encode_slice;
 use std::alloc::Global;
 use xs_faults::{Budget, SliceRefusal};
 use xs_io::{Memory, Octets};
 use xs_markers::write_header;
 use xs_params::{Checked, Planes, Stream};
+use xs_wave::BandPlanes;
 
 /// The codestream of a picture, or the first slice that is over its share at the coarsest candidate. What is built is said
-/// by `IsBuilt`: grey pictures of 8 bits, split once across.
+/// by `IsBuilt`: grey pictures of 8 bits.
 pub fn encode_picture(
     alloc: Global,
     planes: &Planes,
@@ -52,16 +56,15 @@ fn encode_slices(
     ensures small { IfOk result (λ slices. All (λ slice. length slice ≤ 524286) slices.items) }
     ensures refused { MatchResult result (λ _. ⊤) (IsRefusal (header_of settings.now) (rows_of (header_of settings.now) planes.now) settings.now.share) }
 {
-    let asked = settings.settings();
-    let height = u32::from(asked.hsl);
-    let count = (asked.shape.height + height - 1) / height;
-    let mut rows = match blank_rows(alloc, settings) {
-        Ok(rows) => rows,
+    let _asked = settings.settings();
+    let (bands, mut rows) = match split(alloc, planes, settings) {
+        Ok(split) => split,
         Err(Memory) => return Err(SliceRefusal::Memory),
     };
+    let count = rows.layout().slices();
     let mut slices = Vec::new(alloc);
     'slices: for slice in 0..count {
-        let bytes = match encode_within(alloc, planes, settings, slice, &mut rows) {
+        let bytes = match encode_within(alloc, settings, &bands, slice, &mut rows) {
             Ok(bytes) => bytes,
             Err(refusal) => return Err(refusal),
         };
@@ -70,14 +73,22 @@ fn encode_slices(
     Ok(slices)
 }
 
-// The rows for the lines of a picture.
-fn blank_rows(alloc: Global, settings: &Checked) -> Result<LineRows, Memory>
+// The bands of a picture, and rows for its precincts.
+fn split(
+    alloc: Global,
+    planes: &Planes,
+    settings: &Checked,
+) -> Result<(BandPlanes, PrecinctRows), Memory>
+    requires shape { planes.now.shape ≡ settings.now.shape }
     requires built { IsBuilt settings.now }
-    ensures layout { IfOk result (λ rows. rows.layout ≡ geometry_of (header_of settings.now)) }
+    ensures bands { IfOk result (λ split. AreBandsOf (header_of settings.now) planes.now split.0) }
+    ensures layout { IfOk result (λ split. split.1.layout ≡ geometry_of (header_of settings.now)) }
 {
     let _asked = settings.settings();
     let header = settings.header(alloc)?;
-    LineRows::blank(alloc, &header)
+    let bands = component_bands(alloc, planes, &header)?;
+    let rows = PrecinctRows::blank(alloc, &header)?;
+    Ok((bands, rows))
 }
 
 // One more slice.
@@ -91,25 +102,25 @@ fn add(slices: &mut Vec<Octets>, slice: Octets) -> Result<(), SliceRefusal>
     }
 }
 
-// The bytes of a slice, unless they are over the share.
+// The bytes of a slice of the picture with these bands, unless they are over the share.
 fn encode_within(
     alloc: Global,
-    planes: &Planes,
     settings: &Checked,
+    bands: &BandPlanes,
     slice: u32,
-    rows: &mut LineRows,
+    rows: &mut PrecinctRows,
 ) -> Result<Octets, SliceRefusal>
     requires built { IsBuilt settings.now }
-    requires shape { planes.now.shape ≡ settings.now.shape }
+    requires planes { AreGreyPlanes (header_of settings.now) bands.now }
     requires slice { slice < slice_count (header_of settings.now) }
     requires layout { rows.old.layout ≡ geometry_of (header_of settings.now) }
-    ensures bytes { IfOk result (λ bytes. bytes ≡ slice_at (header_of settings.now) (rows_of (header_of settings.now) planes.now) slice finest) }
+    ensures bytes { IfOk result (λ bytes. (picture : Picture) → AreBandsOf (header_of settings.now) picture bands.now → bytes ≡ slice_at (header_of settings.now) (rows_of (header_of settings.now) picture) slice finest) }
     ensures within { IfOk result (λ bytes. length bytes ≤ settings.now.share) }
-    ensures over { MatchResult result (λ _. ⊤) (IsOver (header_of settings.now) (rows_of (header_of settings.now) planes.now) settings.now.share slice) }
+    ensures over { MatchResult result (λ _. ⊤) (λ refusal. (picture : Picture) → AreBandsOf (header_of settings.now) picture bands.now → IsOver (header_of settings.now) (rows_of (header_of settings.now) picture) settings.now.share slice refusal) }
     ensures layout { rows.new.layout ≡ rows.old.layout }
 {
     let share = settings.settings().share;
-    match encode_slice(alloc, planes, settings, slice, rows) {
+    match encode_slice(alloc, settings, bands, slice, rows) {
         Ok(bytes) => within(bytes, slice, share),
         Err(Memory) => Err(SliceRefusal::Memory),
     }

@@ -4,12 +4,16 @@
 ghost use Rattle.xs_picture.specs.OnePicture.{OnePicture};
 ghost use Rattle.xs_picture.specs.ReadAgain.{EncodedIsRead};
 
+mod analysis;
 mod band_planes;
 mod coefs;
 mod colours;
 mod decoder;
 mod encoder;
-mod line_rows;
+mod fill;
+mod packet;
+mod precinct;
+mod precinct_rows;
 mod reader;
 mod samples;
 mod slice;

@@ -4,17 +4,17 @@ use Rattle.xs_picture.proofs.encoder.join.Goals as goal
 
 pub overflow_cast-size : goal.overflow_cast-size
 overflow_cast-size c =
-    let short = pictures.header_short c.args.settings.now c.in_ok-header.header c.requires.built c.in_ok-header.ensures.header in
+    let short = pictures.header_short c.args.settings.now c.in_ok-header.header c.requires.built c.settings-asked.ensures.in_range c.in_ok-header.ensures.header in
     omega (arith, c.len-size.ensures.count, ap length c.in_ok-write_header.ensures.written, short)
 
 pub overflow_add-header : goal.overflow_add-header
 overflow_add-header c =
-    let short = pictures.header_short c.args.settings.now c.in_ok-header.header c.requires.built c.in_ok-header.ensures.header in
+    let short = pictures.header_short c.args.settings.now c.in_ok-header.header c.requires.built c.settings-asked.ensures.in_range c.in_ok-header.ensures.header in
     omega (arith, c.len-size.ensures.count, ap length c.in_ok-write_header.ensures.written, short, c.length_of.ensures.most)
 
 pub overflow_add-header-2 : goal.overflow_add-header-2
 overflow_add-header-2 c =
-    let short = pictures.header_short c.args.settings.now c.in_ok-header.header c.requires.built c.in_ok-header.ensures.header in
+    let short = pictures.header_short c.args.settings.now c.in_ok-header.header c.requires.built c.settings-asked.ensures.in_range c.in_ok-header.ensures.header in
     omega (arith, c.len-size.ensures.count, ap length c.in_ok-write_header.ensures.written, short, c.length_of.ensures.most)
 
 pub write_header-requires-clause-accepted : goal.write_header-requires-clause-accepted

@@ -49,7 +49,7 @@ slices-preserved c =
     let size = c.in-Ok.read.1 in
     let read : IsSliceRead h slice rows (drop place bytes) size = subst (λ l. IsSliceRead h slice rows l size) (take_rest bytes place)
     (subst (λ x. IsSliceRead x slice rows (take (length bytes - place) (drop place bytes)) size) (c.header.ensures ∙ c.slices.invariant.header) c.in-Ok.ensures.read) in
-    let more = more_read h slice c.slices.coefs.slices rows (drop c.args.start bytes) (drop place bytes) size c.requires.headed.headed.spelled.accepted c.requires.headed.headed.values c.slices.invariant.read read in
+    let more = more_read h slice c.slices.coefs.slices rows (drop c.args.start bytes) (drop place bytes) size c.requires.headed.headed.spelled.accepted c.slices.invariant.read read in
     record {
       header = c.in-Ok-push.ensures.header ∙ c.slices.invariant.header;
       within = omega (arith, read.enough, length-drop place bytes, c.slices.invariant.within);

@@ -1,0 +1,10 @@
+use Rattle.std.proofs.Common.{◌≡◌, ℕ, ◌<◌}
+use Rattle.std.specs.Prelude.{slice_index}
+use Rattle.xs_signal.specs.Lines.{entries_of}
+use Rattle.xs_signal.specs.Samples.{scale_in as scaled_in}
+use Rattle.xs_picture.proofs.analysis.scale_row.Given as goal
+
+abbrev pub invariant-loop-k : goal.invariant-loop-k
+invariant-loop-k l = record {
+  scaled : (k : ℕ) → k < l.k → entries_of l.line k ≡ scaled_in l.depth l.bw (slice_index l.samples k);
+}
