@@ -25,8 +25,6 @@ built s asked range = record {
   quant = ap (λ (t : Settings). t.quant) asked.1;
   signs = ap (λ (t : Settings). t.signs_apart) asked.1;
   weights = ap (λ (t : Settings). t.weights) asked.1;
-  across = omega (arith, range.some_across, range.across);
-  down = omega (arith, range.down);
 }
 
 encoded_form : (s : Settings) (input : List ℕ) → ¬ (length input ≡ raw_size s.shape) → encoded s input ≡ Err stop.InputForm
