@@ -41,8 +41,8 @@ row-data row =
     join-are (λ group. group_data (numbers_of (entries_of row) group) (planes_of (entries_of row) group))
     (λ group. group-are (numbers_of (entries_of row) group) (planes_of (entries_of row) group)) (upto (groups_of (length row)))
 
-pub counts-are : (low high : List ℤ) → AreBits (count_bits low ++ count_bits high)
-counts-are low high = all-append (λ bit. bit < 2) (count_bits low) (count_bits high) (row-counts low) (row-counts high)
+pub counts-are : (row : ℕ → List ℤ) (bands : List ℕ) → AreBits (flat_map (λ band. count_bits (row band)) bands)
+counts-are row bands = join-are (λ band. count_bits (row band)) (λ band. row-counts (row band)) bands
 
-pub data-are : (low high : List ℤ) → AreBits (data_bits low ++ data_bits high)
-data-are low high = all-append (λ bit. bit < 2) (data_bits low) (data_bits high) (row-data low) (row-data high)
+pub data-are : (row : ℕ → List ℤ) (bands : List ℕ) → AreBits (flat_map (λ band. data_bits (row band)) bands)
+data-are row bands = join-are (λ band. data_bits (row band)) (λ band. row-data (row band)) bands

@@ -1,7 +1,11 @@
 mod AreBits
+mod Bands
 mod Counts
 mod Encoded
-mod Passed
-mod Precincts
+mod Folded
 mod Matched
+mod Passed
+mod Scaled
+mod Split
+mod Standing
 mod Steps

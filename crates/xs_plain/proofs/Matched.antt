@@ -1,168 +1,124 @@
--- The rows that are computed of a line are those of the picture.
-use Rattle.std.proofs.Common.{◌≡◌, ℕ, ◌+◌, ◌*◌, ◌^◌, ◌<◌, ◌≤◌, ℤ, pos, ◌+ℤ◌, ◌-ℤ◌, List, [], ◌∷◌, ◌++◌, map, length, take, drop, get_or, refl, sym, ap, subst, ◌∙◌, arith, inl, inr}
-use Rattle.std.proofs.Math.Path.{fun_ext}
-use Rattle.std.proofs.Math.ListN.{get_or-map}
-use Rattle.std.proofs.lemmas.Bool.{cases_lt}
-use Rattle.std.proofs.lemmas.Int.{ints}
-use Rattle.std.proofs.lemmas.List.{take_more, get_or_default, get_or_past, get_or-take, get_or-drop, length-map}
-use Rattle.xs_layout.specs.Geometry.{ceil_div}
+-- What is written of the rows in planes is what the definitions write of them.
+use Rattle.std.proofs.Common.{◌≡◌, ℕ, zero, suc, ◌+◌, ◌*◌, ◌^◌, ◌<◌, ◌≤◌, ℤ, List, [], ◌∷◌, ◌++◌, length, map, get_or, refl, sym, ap, subst, ◌∙◌, arith}
+use Rattle.std.specs.List.{AllByRecursion, Contains, flat_map, range_with_len}
+use Rattle.std.proofs.lemmas.List.{length-map}
+use Rattle.std.proofs.lemmas.List.Elements.{Contains-get_or}
+use Rattle.xs_lists.specs.Packing.{packed}
+use Rattle.xs_layout.specs.declared.Format.{Format}
+use Rattle.xs_layout.specs.Geometry.{PacketPlace, components_of, groups_of}
 use Rattle.xs_params.specs.declared.header.Header.{Header}
 use Rattle.xs_params.specs.declared.settings.Settings.{Settings}
+use Rattle.xs_params.specs.Check.{AreInRange}
 use Rattle.xs_params.specs.Headers.{header_of}
-use Rattle.xs_params.specs.Picture.{Picture, AreSamples, row_of, row_first, width_of, sample_at}
 use Rattle.xs_signal.specs.Fold.{fold}
-use Rattle.xs_signal.specs.Lines.{IsBelow, AllBelow, Shows, entries_of}
-use Rattle.xs_signal.specs.Samples.{scale_in}
-use Rattle.xs_signal.specs.Wavelet.{low_count, high_count, low_of, high_of, predicted, updated, evens_of}
-use Rattle.xs_signal.proofs.LineLaws.{predicted_same, updated_same, low_below, high_below}
-use Rattle.xs_wave.proofs.Shown.{shown_below}
-use Rattle.xs_grammar.specs.Geometry.{band_width_of}
-use Rattle.xs_rate.specs.Coefficients.{rows_of}
+use Rattle.xs_grammar.specs.Coded.{field_bytes}
+use Rattle.xs_grammar.specs.Geometry.{bands_of, band_width_of, band_height_of, packet_bands, packets_of}
 use Rattle.xs_rate.specs.Encoding.{IsBuilt}
-use Rattle.xs_rate.specs.Laws.{IsGreyHeader, AreGreyRows, grey_line, AreSmall}
-use Rattle.xs_rate.proofs.Rows.{grey_rows, small_rows}
-use Rattle.xs_plain.specs.Rows.{line_of, AreLineRows}
-use Rattle.xs_plain.specs.Slices.{IsGreyOf}
+use Rattle.xs_rate.specs.Finest.{row_counts, row_data, band_groups}
+use Rattle.xs_rate.specs.WrittenOut.{AreFinestSlices, finest_counts, finest_data, finest_packet}
+use Rattle.xs_rate.proofs.GreySlices.{finest_slices}
+use Rattle.xs_plain.specs.declared.places.Place.{Place}
+use Rattle.xs_plain.specs.Lines.{count_bits, data_bits}
+use Rattle.xs_plain.specs.Packets.{HasRows, counts_in, data_in, packet_in}
+use Rattle.xs_plain.specs.Places.{IsMono, IsThere, place_of}
+use Rattle.xs_plain.specs.Rows.{AreBandsOf, row_in, rows_in}
+use Rattle.xs_plain.specs.Slices.{IsGreyBands}
+use Rattle.xs_plain.proofs.Folded.{are_small}
+use Rattle.xs_plain.proofs.Split.{bands_are}
+use Rattle.xs_plain.proofs.Standing.{all_there, listed_at}
 
--- Lists
+-- Settings
 
-map_more : {X Y : Type 0} (f : X → Y) (xs : List X) (x : X) → map f (xs ++ x ∷ []) ≡ map f xs ++ f x ∷ []
-map_more f [] x = refl
-map_more f (y ∷ ys) x = ap (λ l. f y ∷ l) (map_more f ys x)
+pub mono_of : (s : Settings) → IsBuilt s → AreInRange s → IsMono (header_of s)
+mono_of s built range = record {
+  format = built.format;
+  height = range.shape.most_height;
+  across = range.across;
+  down = omega (arith, range.down);
+  deep = omega (arith, range.down);
+}
 
-kept_whole : (xs rest : List ℤ) → take (length xs) (xs ++ rest) ≡ xs
-kept_whole [] rest = refl
-kept_whole (x ∷ xs) rest = ap (λ l. x ∷ l) (kept_whole xs rest)
+pub mono_in : (h : Header) (bands : List (List (List ℤ))) → IsGreyBands h bands → IsMono h
+mono_in h bands grey = subst IsMono (sym grey.1) (mono_of grey.0 grey.2 grey.3)
 
--- a list that was lent and written through
-pub written_back : (n : ℕ) (xs old : List ℤ) → length xs ≡ n → take n (xs ++ drop (length xs) old) ≡ xs
-written_back n xs old size = ap (λ k. take k (xs ++ drop (length xs) old)) (sym size) ∙ kept_whole xs (drop (length xs) old)
+pub law_in : (h : Header) (bands : List (List (List ℤ))) → IsGreyBands h bands → AreFinestSlices h (rows_in bands)
+law_in h bands grey = subst (λ g. AreFinestSlices g (rows_in bands)) (sym grey.1) (finest_slices grey.0 (rows_in bands) grey.2 grey.3 (are_small bands))
 
-pub taken_more : {X Y : Type 0} (f : X → Y) (xs : List X) (i : ℕ) (d : X) → i < length xs → map f (take (i + 1) xs) ≡ map f (take i xs) ++ f (get_or xs i d) ∷ []
-taken_more f xs i d inside = ap (map f) (take_more xs i d inside) ∙ map_more f (take i xs) (get_or xs i d)
+-- Packets
 
-pub entry_mapped : {X : Type 0} (f : X → ℤ) (xs : List X) (d : X) (k : ℕ) → k < length xs → entries_of (map f xs) k ≡ f (get_or xs k d)
-entry_mapped f xs d k inside = get_or_default (map f xs) k (pos 0) (f d) (subst (λ n. k < n) (sym (length-map xs f)) inside) ∙ get_or-map f xs k d
+pub flat_same : {A : Type 0} (f g : ℕ → List A) (first n : ℕ) → ((i : ℕ) → first ≤ i → i < first + n → f i ≡ g i) → flat_map f (range_with_len first n) ≡ flat_map g (range_with_len first n)
+flat_same f g first zero same = refl
+flat_same f g first (suc n) same =
+    ap (λ l. l ++ flat_map f (range_with_len (first + 1) n)) (same first (omega arith) (omega arith))
+    ∙ ap (λ l. g first ++ l) (flat_same f g (first + 1) n (λ i low high. same i (omega (arith, low)) (omega (arith, high))))
 
--- Sizes
+pub packet_range : (h : Header) (place : PacketPlace) → IsMono h → packet_bands h place ≡ range_with_len place.first_type place.types
+packet_range h place mono =
+    let first : place.first_type * 1 ≡ place.first_type = omega arith in
+    let types : place.types * 1 ≡ place.types = omega arith in
+    ap (λ (f : Format). range_with_len (place.first_type * components_of f) (place.types * components_of f)) mono.format
+    ∙ ap (λ n. range_with_len n (place.types * 1)) first ∙ ap (range_with_len place.first_type) types
 
-pub scaled_small : (sample : ℕ) → sample < 2 ^ 8 → IsBelow (2 ^ 20) (scale_in 8 20 sample)
-scaled_small sample small = record { least = omega (arith, ints, small); most = omega (arith, ints, small) }
+pub row_width : (h : Header) (bands : List (List (List ℤ))) (band line : ℕ) → AreBandsOf h bands → band < bands_of h → line < band_height_of h band → length (row_in bands band line) ≡ band_width_of h band
+row_width h bands band line are inside less =
+    let size = are.sizes band inside in
+    length-map (get_or (get_or bands band []) line []) (fold 8) ∙ size.wide line (omega (arith, less, size.high))
 
-zero_small : (z : ℤ) → z ≡ pos 0 → IsBelow (2 ^ 20) z
-zero_small z none = record { least = omega (arith, ints, none); most = omega (arith, ints, none) }
+counts_match : (h : Header) (bands : List (List (List ℤ))) (place : Place) → IsMono h → AreBandsOf h bands → IsThere h (place_of place) → counts_in bands place ≡ finest_counts h (rows_in bands) (place_of place)
+counts_match h bands place mono are there =
+    ap packed (flat_same (λ band. count_bits (row_in bands band place.line)) (λ band. row_counts (rows_in bands band place.line) (band_groups h band)) place.first_type place.types
+    (λ band low high. ap (λ n. row_counts (rows_in bands band place.line) (groups_of n)) (row_width h bands band place.line are (omega (arith, high, there.bands)) (there.lines band low high))))
+    ∙ ap (λ l. packed (flat_map (λ band. row_counts (rows_in bands band place.line) (band_groups h band)) l)) (sym (packet_range h (place_of place) mono))
 
-pub line_below : (samples : List ℕ) → AreSamples 8 samples → AllBelow (2 ^ 20) (line_of samples)
-line_below samples small k = elim (cases_lt k (length samples)) [
-  | inl inside ↦ subst (IsBelow (2 ^ 20)) (sym (entry_mapped (scale_in 8 20) samples 0 k inside)) (scaled_small (get_or samples k 0) (small k 0 inside))
-  | inr past ↦ zero_small (line_of samples k) (get_or_past (map (scale_in 8 20) samples) k (pos 0) (subst (λ n. n ≤ k) (sym (length-map samples (scale_in 8 20))) past))
-]
+data_match : (h : Header) (bands : List (List (List ℤ))) (place : Place) → IsMono h → AreBandsOf h bands → IsThere h (place_of place) → data_in bands place ≡ finest_data h (rows_in bands) (place_of place)
+data_match h bands place mono are there =
+    ap packed (flat_same (λ band. data_bits (row_in bands band place.line)) (λ band. row_data (rows_in bands band place.line) (band_groups h band)) place.first_type place.types
+    (λ band low high. ap (λ n. row_data (rows_in bands band place.line) (groups_of n)) (row_width h bands band place.line are (omega (arith, high, there.bands)) (there.lines band low high))))
+    ∙ ap (λ l. packed (flat_map (λ band. row_data (rows_in bands band place.line) (band_groups h band)) l)) (sym (packet_range h (place_of place) mono))
 
-pub wide : (z : ℤ) → IsBelow (2 ^ 20) z → IsBelow (2 ^ 50) z
-wide z small = record { least = omega (arith, ints, small.least, small.most); most = omega (arith, ints, small.least, small.most) }
+abbrev pub packet_from : List ℕ → List ℕ → List ℕ
+packet_from counts numbers = field_bytes ((1, 0) ∷ (15, length numbers) ∷ (13, length counts) ∷ (11, 0) ∷ []) ++ (counts ++ numbers)
 
--- what shows a part of a small line is small
-pub low_shown : (n : ℕ) (line : ℕ → ℤ) (xs : List ℤ) → AllBelow (2 ^ 20) line → Shows xs (low_of n line) → AllBelow (2 ^ 50) (entries_of xs)
-low_shown n line xs small shown = shown_below (2 ^ 21) (2 ^ 50) (λ k. k) xs (low_of n line) (omega arith) (omega arith) shown (low_below (2 ^ 20) n line small)
+-- what a packet of a precinct needs to be written, and its bytes
+pub record IsWritable (h : Header) (bands : List (List (List ℤ))) (place : Place) : Type 0 where
+  pub rows : HasRows bands place
+  pub counts : length (counts_in bands place) < 2 ^ 13
+  pub numbers : length (data_in bands place) < 2 ^ 15
+  pub bytes : packet_in bands place ≡ finest_packet h (rows_in bands) (place_of place)
 
-pub high_shown : (n : ℕ) (line : ℕ → ℤ) (xs : List ℤ) → AllBelow (2 ^ 20) line → Shows xs (high_of n line) → AllBelow (2 ^ 50) (entries_of xs)
-high_shown n line xs small shown = shown_below (2 ^ 21) (2 ^ 50) (λ k. k) xs (high_of n line) (omega arith) (omega arith) shown (high_below (2 ^ 20) n line small)
+has_rows : (h : Header) (bands : List (List (List ℤ))) (place : Place) → IsMono h → AreBandsOf h bands → IsThere h (place_of place) → HasRows bands place
+has_rows h bands place mono are there =
+    let across = mono.across in
+    let down = mono.down in
+    record {
+      few = omega (arith, there.bands, bands_are h mono, across, down);
+      there = omega (arith, there.bands, are.many);
+      lines = λ band low high. omega (arith, there.lines band low high, (are.sizes band (omega (arith, high, there.bands))).high);
+      small = λ band high. are.small band (omega (arith, high, there.bands));
+    }
 
--- what is known of a row that was folded
-pub size_known : (count : ℕ → ℕ) (samples : List ℕ) (line values row : List ℤ) → line ≡ map (scale_in 8 20) samples → length values ≡ count (length line) → row ≡ map (fold 8) values
-    → length row ≡ count (length samples)
-size_known count samples line values row l size r =
-    ap length r ∙ length-map values (fold 8) ∙ size ∙ ap count (ap length l ∙ length-map samples (scale_in 8 20))
-
-pub part_known : (part : ℕ → (ℕ → ℤ) → ℕ → ℤ) (samples : List ℕ) (line values row : List ℤ) → line ≡ map (scale_in 8 20) samples → Shows values (part (length line) (entries_of line))
-    → row ≡ map (fold 8) values → (k : ℕ) → k < length row → entries_of row k ≡ fold 8 (part (length samples) (line_of samples) k)
-part_known part samples line values row l shown r k inside =
-    let size : length row ≡ length values = ap length r ∙ length-map values (fold 8) in
-    let n : length line ≡ length samples = ap length l ∙ length-map samples (scale_in 8 20) in
-    ap (λ xs. entries_of xs k) r ∙ entry_mapped (fold 8) values (pos 0) k (omega (arith, inside, size))
-    ∙ ap (fold 8) (shown k (omega (arith, inside, size)) ∙ ap (λ m. part m (entries_of line) k) n ∙ ap (λ xs. part (length samples) (entries_of xs) k) l)
-
--- A part looks at no sample outside the line
-
-high_same : (n k : ℕ) (f g : ℕ → ℤ) → 2 * k + 1 < n → ((j : ℕ) → j < n → f j ≡ g j) → high_of n f k ≡ high_of n g k
-high_same n k f g inside same =
-    ap (λ z. z -ℤ predicted n (evens_of f) k) (same (2 * k + 1) inside)
-    ∙ ap (λ z. g (2 * k + 1) -ℤ z) (predicted_same n k (evens_of f) (evens_of g) inside (λ j less. same (2 * j) (omega (arith, less))))
-
-low_same : (n k : ℕ) (f g : ℕ → ℤ) → 2 ≤ n → 2 * k < n → ((j : ℕ) → j < n → f j ≡ g j) → low_of n f k ≡ low_of n g k
-low_same n k f g two inside same =
-    ap (λ z. z +ℤ updated n (high_of n f) k) (same (2 * k) inside)
-    ∙ ap (λ z. g (2 * k) +ℤ z) (updated_same n k (high_of n f) (high_of n g) two inside (λ j less. high_same n j f g (omega (arith, less)) same))
-
--- The rows of a picture
-
--- what is known of the rows that were computed
-pub record Match (h : Header) (picture : Picture) (line : ℕ) (lower upper : List ℤ) : Type 0 where
-  pub low : entries_of lower ≡ rows_of h picture 0 line
-  pub high : entries_of upper ≡ rows_of h picture 1 line
-  pub lows : length lower ≡ band_width_of h 0
-  pub highs : length upper ≡ band_width_of h 1
-
-pub grey_header : (s : Settings) → IsBuilt s → IsGreyHeader (header_of s)
-grey_header s built = record { format = built.format; colour = built.colour; across = built.across; down = built.down }
-
-pub grey_width : (s : Settings) (picture : Picture) → IsGreyOf s picture → width_of picture.shape 0 ≡ s.shape.width
-grey_width s picture grey =
-    let one : ceil_div s.shape.width 1 ≡ s.shape.width = omega arith in
-    ap (λ shape. width_of shape 0) grey.shape ∙ one
-
--- a sample of a row is that of the picture
-sample_same : (s : Settings) (picture : Picture) (line k : ℕ) → IsGreyOf s picture → k < s.shape.width → length (row_of picture 0 line) ≡ s.shape.width
-    → line_of (row_of picture 0 line) k ≡ grey_line (header_of s) picture line k
-sample_same s picture line k grey inside size =
-    let width = grey_width s picture grey in
-    entry_mapped (scale_in 8 20) (row_of picture 0 line) 0 k (omega (arith, inside, size))
-    ∙ ap (scale_in 8 20) (get_or-take (width_of picture.shape 0) (drop (row_first picture.shape 0 line) picture.samples) k 0 (omega (arith, inside, width)) ∙ get_or-drop (row_first picture.shape 0 line) picture.samples k 0)
-    ∙ ap (λ depth. scale_in depth 20 (sample_at picture 0 line k)) (sym grey.built.depth)
-
-pub rows_match : (s : Settings) (picture : Picture) (line : ℕ) (low high : List ℤ) → IsGreyOf s picture → length (row_of picture 0 line) ≡ s.shape.width
-    → AreLineRows (row_of picture 0 line) low high → Match (header_of s) picture line low high
-rows_match s picture line low high grey size rows =
-    record { low = fun_ext low_at; high = fun_ext high_at; lows = lows ∙ sym law.low_width; highs = highs ∙ sym law.high_width }
+pub writable : (h : Header) (bands : List (List (List ℤ))) (precinct : ℕ) (items : List Place) (k : ℕ) (place : Place) → IsGreyBands h bands → map place_of items ≡ packets_of h precinct
+    → k < length items → place ≡ get_or items k place → IsWritable h bands place
+writable h bands precinct items k place grey same inside here =
+    let mono = mono_in h bands grey in
+    let are = grey.4 in
+    let there = listed_at (IsThere h) (packets_of h precinct) items k place (all_there h precinct mono) same inside here in
+    let counts = counts_match h bands place mono are there in
+    let numbers = data_match h bands place mono are there in
+    let size = (law_in h bands grey).packets precinct (place_of place) (listed h precinct items k place same inside here) in
+    record {
+      rows = has_rows h bands place mono are there;
+      counts = omega (arith, ap length counts, size.counts);
+      numbers = omega (arith, ap length numbers, size.numbers);
+      bytes = ap (λ l. packet_from l (data_in bands place)) counts ∙ ap (packet_from (finest_counts h (rows_in bands) (place_of place))) numbers;
+    }
   where
-    h : Header
-    h = header_of s
+    all_of : {A : Type 0} (P : A → Type 0) (xs : List A) → ((k : ℕ) (d : A) → k < length xs → P (get_or xs k d)) → AllByRecursion P xs
+    all_of P [] each = tt
+    all_of P (x ∷ xs) each = (each 0 x (omega arith), all_of P xs (λ k d inside. each (suc k) d (omega (arith, inside))))
 
-    width : ℕ
-    width = s.shape.width
-
-    law : AreGreyRows (header_of s) picture
-    law = grey_rows (header_of s) picture (grey_header s grey.built)
-
-    lows : length low ≡ low_count s.shape.width
-    lows = rows.lows ∙ ap low_count size
-
-    highs : length high ≡ high_count s.shape.width
-    highs = rows.highs ∙ ap high_count size
-
-    two : 2 ≤ s.shape.width
-    two = omega (arith, grey.range.shape.least_width)
-
-    same : (j : ℕ) → j < s.shape.width → line_of (row_of picture 0 line) j ≡ grey_line (header_of s) picture line j
-    same j less = sample_same s picture line j grey less size
-
-    low_at : (k : ℕ) → entries_of low k ≡ rows_of (header_of s) picture 0 line k
-    low_at k = elim (cases_lt k (length low)) [
-      | inl inside ↦
-          rows.low k inside ∙ ap (λ n. fold 8 (low_of n (line_of (row_of picture 0 line)) k)) size
-          ∙ ap (fold 8) (low_same s.shape.width k (line_of (row_of picture 0 line)) (grey_line (header_of s) picture line) two (omega (arith, inside, lows)) same)
-          ∙ sym (law.low line k (omega (arith, inside, lows)))
-      | inr past ↦ get_or_past low k (pos 0) past ∙ sym (law.low_past line k (omega (arith, past, lows)))
-    ]
-
-    high_at : (k : ℕ) → entries_of high k ≡ rows_of (header_of s) picture 1 line k
-    high_at k = elim (cases_lt k (length high)) [
-      | inl inside ↦
-          rows.high k inside ∙ ap (λ n. fold 8 (high_of n (line_of (row_of picture 0 line)) k)) size
-          ∙ ap (fold 8) (high_same s.shape.width k (line_of (row_of picture 0 line)) (grey_line (header_of s) picture line) (omega (arith, inside, highs)) same)
-          ∙ sym (law.high line k (omega (arith, inside, highs)))
-      | inr past ↦ get_or_past high k (pos 0) past ∙ sym (law.high_past line k (omega (arith, past, highs)))
-    ]
-
-pub are_small : (h : Header) (picture : Picture) → AreSmall (rows_of h picture)
-are_small h picture band line column = let most = small_rows h picture band line column in omega (arith, most)
+    listed : (h : Header) (precinct : ℕ) (items : List Place) (k : ℕ) (place : Place) → map place_of items ≡ packets_of h precinct → k < length items → place ≡ get_or items k place
+        → Contains (packets_of h precinct) (place_of place)
+    listed h precinct items k place same inside here =
+        listed_at (Contains (packets_of h precinct)) (packets_of h precinct) items k place
+        (all_of (Contains (packets_of h precinct)) (packets_of h precinct) (λ j d less. Contains-get_or (packets_of h precinct) j d less)) same inside here

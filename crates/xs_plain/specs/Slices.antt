@@ -1,5 +1,5 @@
 -- What is encoded here, and slices within their share: 'Rate choice'.
-use Rattle.std.specs.Prelude.{◌≡◌, ℕ, ◌<◌, ◌≤◌, List, [], length, slice_index_or, Err}
+use Rattle.std.specs.Prelude.{◌≡◌, ℕ, ◌<◌, ◌≤◌, ℤ, List, [], length, slice_index_or, Err}
 use Rattle.xs_params.specs.declared.header.Header.{Header}
 use Rattle.xs_params.specs.declared.settings.Settings.{Settings}
 use Rattle.xs_params.specs.Check.{AreInRange}
@@ -9,6 +9,7 @@ use Rattle.xs_faults.specs.declared.Budget.{Budget}
 use Rattle.xs_faults.specs.declared.SliceRefusal.{SliceRefusal}
 use Rattle.xs_faults.specs.declared.SliceRefusal.TheVariants as refusal
 use Rattle.xs_rate.specs.Encoding.{IsBuilt, encoding_of}
+use Rattle.xs_plain.specs.Rows.{AreBandsOf}
 
 -- a picture of settings that are built
 pub record IsGreyOf (s : Settings) (picture : Picture) : Type 0 where
@@ -18,6 +19,10 @@ pub record IsGreyOf (s : Settings) (picture : Picture) : Type 0 where
 
 abbrev pub IsGreyPicture : Picture → Type 0
 IsGreyPicture picture = (s : Settings) × IsGreyOf s picture
+
+-- the planes of the bands of such settings, with the header
+abbrev pub IsGreyBands : Header → List (List (List ℤ)) → Type 0
+IsGreyBands h bands = (s : Settings) × (h ≡ header_of s) × IsBuilt s × AreInRange s × AreBandsOf h bands
 
 -- a picture of such settings, with the header that they give it
 abbrev pub IsGrey : Header → Picture → Type 0

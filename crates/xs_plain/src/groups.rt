@@ -1,5 +1,5 @@
 //! The code groups of a row of coefficients: how many bit planes each has, and the bits of its numbers.
-ghost use Rattle.std.specs.Prelude.{◌≡◌, ℤ, ◌/◌, ◌%◌, ◌^◌, ◌<◌, ◌≤◌, ◌++◌, length, map, max, unsigned_abs, OnOk};
+ghost use Rattle.std.specs.Prelude.{◌≡◌, ◌/◌, ◌%◌, ◌^◌, ◌<◌, ◌≤◌, ◌++◌, length, map, max, unsigned_abs, OnOk};
 ghost use Rattle.std.specs.Int.{is_negative};
 ghost use Rattle.std.specs.List.{fold};
 ghost use Rattle.xs_lists.specs.Bits.{bit_of};

@@ -6,6 +6,7 @@ ghost use Rattle.xs_grammar.specs.Header.{IsAccepted};
 ghost use Rattle.xs_rate.specs.Encoding.{IsBuilt, encoding_of, stream_of, with_length};
 ghost use Rattle.xs_plain.specs.Slices.{IsRefused};
 
+use crate::rows::bands_of;
 use crate::slices::{all_slices, first_over};
 use std::alloc::Global;
 use xs_faults::SliceRefusal;
@@ -75,7 +76,10 @@ pub fn encode(alloc: Global, planes: &Planes, settings: &Checked) -> Result<Stre
     let Ok(header) = settings.header(alloc) else {
         return Err(SliceRefusal::Memory);
     };
-    let Ok(all) = all_slices(alloc, &header, planes) else {
+    let Ok(bands) = bands_of(alloc, &header, planes) else {
+        return Err(SliceRefusal::Memory);
+    };
+    let Ok(all) = all_slices(alloc, &header, &bands) else {
         return Err(SliceRefusal::Memory);
     };
     let slices = all.as_slice();

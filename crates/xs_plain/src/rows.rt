@@ -1,17 +1,19 @@
-//! The rows of coefficients of a line of a grey picture.
-ghost use Rattle.std.specs.Prelude.{◌≡◌, ◌<◌, ◌≤◌, ◌^◌, [], ◌∷◌, ◌++◌, length, map, IfOk, OnOk};
+//! The rows of coefficients of a grey picture: its plane is taken apart into bands, and these are folded line by line.
+ghost use Rattle.std.specs.Prelude.{◌≡◌, ◌≢◌, ℕ, ◌<◌, ◌^◌, [], ◌∷◌, ◌++◌, length, map, slice_index_or, IfOk, OnOk};
 ghost use Rattle.xs_params.specs.Picture.{AreSamples};
 ghost use Rattle.xs_signal.specs.Fold.{fold as folded_to};
-ghost use Rattle.xs_signal.specs.Lines.{AllBelow, Shows, entries_of};
+ghost use Rattle.xs_signal.specs.Lines.{AllBelow, entries_of};
 ghost use Rattle.xs_signal.specs.Samples.{scale_in as scaled_in};
-ghost use Rattle.xs_signal.specs.Wavelet.{low_count, high_count, low_of, high_of};
-ghost use Rattle.xs_plain.specs.Rows.{AreLineRows};
+ghost use Rattle.xs_wave.specs.Planes.{IsSmall};
+ghost use Rattle.xs_plain.specs.Rows.{AreBandsOf, HoldRows, IsScaledPlane, row_in};
+ghost use Rattle.xs_plain.specs.Slices.{IsGrey, IsGreyPicture};
 
 use std::alloc::Global;
 use xs_io::Memory;
+use xs_params::{Header, Planes};
 use xs_quant::fold;
 use xs_samples::scale_in;
-use xs_wave::analyse_line;
+use xs_wave::{BandPlanes, Plane, analyse_plane};
 
 // The bits of a sample, of the numbers that the transforms work on, and of them that are rounded away.
 const DEPTH: u8 = 8;
@@ -19,13 +21,6 @@ const DEPTH: u8 = 8;
 const BW: u8 = 20;
 
 const FQ: u8 = 8;
-
-/// The low and the high part of a line.
-#[derive(Drop)]
-pub struct LineRows {
-    pub low: Vec<i32>,
-    pub high: Vec<i32>,
-}
 
 fn push_number(line: &mut Vec<i64>, number: i64) -> Result<(), Memory>
     ensures { OnOk result (line.new.items ≡ line.old.items ++ number ∷ []) }
@@ -63,37 +58,55 @@ fn folded(alloc: Global, values: &[i64]) -> Result<Vec<i32>, Memory>
     Ok(row)
 }
 
-// So many zeros.
-fn zeros(alloc: Global, count: usize) -> Result<Vec<i64>, Memory>
-    ensures { IfOk result (λ line. length line.items ≡ count) }
+fn copy(row: &mut [i64], line: &[i64])
+    requires { length row.old ≡ length line.now }
+    ensures { row.new ≡ line.now }
 {
-    vec![in alloc; 0; count].map_err(|_| Memory)
+    row.copy_from_slice(line);
 }
 
-// The low part of a line, and the high part.
-fn split(alloc: Global, line: &[i64]) -> Result<(Vec<i64>, Vec<i64>), Memory>
-    requires two { 2 ≤ length line.now }
-    requires small { AllBelow (2 ^ 50) (entries_of line.now) }
-    ensures lows { IfOk result (λ parts. length parts.0.items ≡ low_count (length line.now)) }
-    ensures highs { IfOk result (λ parts. length parts.1.items ≡ high_count (length line.now)) }
-    ensures low { IfOk result (λ parts. Shows parts.0.items (low_of (length line.now) (entries_of line.now))) }
-    ensures high { IfOk result (λ parts. Shows parts.1.items (high_of (length line.now) (entries_of line.now))) }
+// A row of a plane becomes these numbers.
+fn put_line(plane: &mut Plane, row: u32, line: &[i64])
+    requires there { row < length plane.old }
+    requires width { length (slice_index_or plane.old row []) ≡ length line.now }
+    ensures put { slice_index_or plane.new row [] ≡ line.now }
+    ensures others { (other : ℕ) → other ≢ row → slice_index_or plane.new other [] ≡ slice_index_or plane.old other [] }
+    ensures as_many { length plane.new ≡ length plane.old }
 {
-    let mut low = zeros(alloc, (line.len() + 1) / 2)?;
-    let mut high = zeros(alloc, line.len() / 2)?;
-    analyse_line(line, low.as_mut_slice(), high.as_mut_slice());
-    Ok((low, high))
+    copy(plane.row_mut(row), line);
 }
 
-/// The rows of a line of samples.
-pub fn rows_of(alloc: Global, samples: &[u16]) -> Result<LineRows, Memory>
-    requires two { 2 ≤ length samples.now }
-    requires samples { AreSamples 8 samples.now }
-    ensures { IfOk result (λ rows. AreLineRows samples.now rows.low.items rows.high.items) }
+// The scaled samples of a picture.
+fn scaled_plane(alloc: Global, planes: &Planes) -> Result<Plane, Memory>
+    requires { IsGreyPicture planes.now }
+    ensures { IfOk result (IsScaledPlane planes.now) }
 {
-    let line = scaled(alloc, samples)?;
-    let (low, high) = split(alloc, line.as_slice())?;
-    let low = folded(alloc, low.as_slice())?;
-    let high = folded(alloc, high.as_slice())?;
-    Ok(LineRows { low, high })
+    let shape = planes.shape();
+    let mut plane = Plane::blank(alloc, shape.width, shape.height)?;
+    'rows: for row in 0..shape.height {
+        let line = scaled(alloc, planes.row(0, row))?;
+        put_line(&mut plane, row, line.as_slice());
+    }
+    Ok(plane)
+}
+
+/// The planes of the bands of a picture.
+pub fn bands_of(alloc: Global, header: &Header, planes: &Planes) -> Result<BandPlanes, Memory>
+    requires { IsGrey header.now planes.now }
+    ensures bands { IfOk result (AreBandsOf header.now) }
+    ensures rows { IfOk result (HoldRows header.now planes.now) }
+{
+    let plane = scaled_plane(alloc, planes)?;
+    let bands = analyse_plane(alloc, &plane, header.nlx, header.nly)?;
+    Ok(bands)
+}
+
+/// The coefficients of a line of a band.
+pub fn row(alloc: Global, bands: &BandPlanes, band: u32, line: u32) -> Result<Vec<i32>, Memory>
+    requires band { band < length bands.now }
+    requires line { line < length (slice_index_or bands.now band []) }
+    requires small { IsSmall (2 ^ 50) (slice_index_or bands.now band []) }
+    ensures { IfOk result (λ row. row.items ≡ row_in bands.now band line) }
+{
+    folded(alloc, bands.plane(band).row(line))
 }

@@ -1,3 +1,7 @@
+ghost use Rattle.std.specs.Prelude.{◌≡◌};
+ghost use Rattle.xs_layout.specs.declared.Format.TheVariants as Format;
+ghost use Rattle.xs_rate.specs.Encoding.{IsBuilt};
+
 use crate::encode;
 use std::alloc::Global;
 use std::test::Fail;
@@ -38,12 +42,17 @@ fn black(alloc: Global) -> Result<Octets, Memory> {
     Ok(bytes)
 }
 
-// A black picture with so many lines a slice, and so many bytes.
-fn encoded(alloc: Global, hsl: u16, share: u32) -> Result<Result<Stream, SliceRefusal>, Fail> {
-    let settings = Settings {
-        shape: SHAPE,
-        nlx: 1,
-        nly: 0,
+// Pictures of this shape and so many levels, with so many precincts a slice, and so many bytes.
+fn settings(alloc: Global, shape: Shape, nlx: u8, nly: u8, hsl: u16, share: u32) -> Settings
+    requires mono { shape.format ≡ Format.Mono }
+    requires depth { shape.depth ≡ 8 }
+    ensures shape { result.shape ≡ shape }
+    ensures built { IsBuilt result }
+{
+    Settings {
+        shape,
+        nlx,
+        nly,
         hsl,
         colour: false,
         quant: Quant::DeadZone,
@@ -58,8 +67,12 @@ fn encoded(alloc: Global, hsl: u16, share: u32) -> Result<Result<Stream, SliceRe
         boxes: Octets::new(alloc),
         workers: 4,
         feeders: 2,
-    };
-    let checked = settings.check()?;
+    }
+}
+
+// A black picture with so many lines a slice, and so many bytes.
+fn encoded(alloc: Global, hsl: u16, share: u32) -> Result<Result<Stream, SliceRefusal>, Fail> {
+    let checked = settings(alloc, SHAPE, 1, 0, hsl, share).check()?;
     let planes = Planes::blank(alloc, SHAPE)?;
     Ok(encode(alloc, &planes, &checked))
 }
@@ -80,5 +93,62 @@ fn a_black_picture_is_encoded(rt: HostRuntime) -> Result<(), Fail> {
     let mut last = Octets::from_slice(alloc, &[0xff, 0x20, 0, 4, 0, 3])?;
     last.extend(&PRECINCT)?;
     assert!(rt; lines.slice(3).as_slice() == last.as_slice());
+    Ok(())
+}
+
+// A picture with an odd number of lines, two levels each way and four precincts a slice.
+const TALL: Shape = Shape {
+    width: 32,
+    height: 17,
+    format: Format::Mono,
+    depth: 8,
+};
+
+// All coefficients are 0, so each code group has the one bit of its count. A precinct has ten packets, and the last one three:
+// no line of LH and HH is left, and one of HL of either level.
+const ZEROS: [u8; 6] = [0, 0, 0, 8, 0, 0];
+
+const WHOLE_HEAD: [u8; 7] = [0, 0, 0x3c, 0, 0, 0, 0];
+
+const LAST_HEAD: [u8; 7] = [0, 0, 0x12, 0, 0, 0, 0];
+
+fn add_packets(bytes: &mut Octets, head: &[u8], packets: u32) -> Result<(), Memory> {
+    bytes.extend(head)?;
+    for _ in 0..packets {
+        bytes.extend(&ZEROS)?;
+    }
+    Ok(())
+}
+
+// The samples become half of the greatest.
+fn fill(planes: &mut Planes, shape: Shape)
+    requires shape { planes.old.shape ≡ shape }
+    requires mono { shape.format ≡ Format.Mono }
+    requires depth { shape.depth ≡ 8 }
+    ensures { planes.new.shape ≡ shape }
+{
+    'rows: for row in 0..shape.height {
+        'columns: for column in 0..shape.width {
+            planes.set(0, row, column, 128);
+        }
+    }
+}
+
+#[test]
+fn a_packet_whose_line_is_not_there_is_left_out(rt: HostRuntime) -> Result<(), Fail> {
+    let alloc = rt.alloc();
+    let mut planes = Planes::blank(alloc, TALL)?;
+    fill(&mut planes, TALL);
+    let checked = settings(alloc, TALL, 2, 2, 4, 1000).check()?;
+    let stream = encode(alloc, &planes, &checked)?;
+    assert!(rt; stream.len() == 2);
+    let mut first = Octets::from_slice(alloc, &SLICE_HEAD)?;
+    for _ in 0..4 {
+        add_packets(&mut first, &WHOLE_HEAD, 10)?;
+    }
+    assert!(rt; stream.slice(0).as_slice() == first.as_slice());
+    let mut last = Octets::from_slice(alloc, &[0xff, 0x20, 0, 4, 0, 1])?;
+    add_packets(&mut last, &LAST_HEAD, 3)?;
+    assert!(rt; stream.slice(1).as_slice() == last.as_slice());
     Ok(())
 }

@@ -4,7 +4,7 @@ use Rattle.xs_signal.specs.Fold.{fold}
 use Rattle.xs_signal.specs.Lines.{entries_of}
 use Rattle.xs_signal.proofs.Magnitudes.{fold_fits}
 use Rattle.xs_plain.proofs.Passed.{passed_as, passed_wide}
-use Rattle.xs_plain.proofs.Matched.{taken_more}
+use Rattle.xs_plain.proofs.Folded.{taken_more}
 use Rattle.xs_plain.proofs.rows.folded.Goals as goal
 
 pub values-preserved : goal.values-preserved

@@ -1,7 +1,7 @@
 use Rattle.std.proofs.Common.{◌<◌, ℤ, [], ◌∷◌, ◌++◌, ◌∙◌, map, take, length, get_or, w64, to_z, of_z, sym, ap, arith}
 use Rattle.xs_signal.specs.Samples.{scale_in}
 use Rattle.xs_plain.proofs.Passed.{passed_wide}
-use Rattle.xs_plain.proofs.Matched.{taken_more, scaled_small, wide}
+use Rattle.xs_plain.proofs.Folded.{taken_more, scaled_small, wide}
 use Rattle.xs_plain.proofs.rows.scaled.Goals as goal
 
 pub samples-preserved : goal.samples-preserved
