@@ -2,23 +2,8 @@
 # Times the encoder and the decoder on pictures of growing size, a pattern and noise, with one wavelet level and with five across
 # and two down: the cost of a sample must not grow with the picture. Each picture must come back.
 # It uses the built program (crates/xsx/out/xsx, after `rt run` there or a whole `rt ci`), and GNU time.
-set -eu
-
-top=$(cd "$(dirname "$0")/.." && pwd)
-program=$top/crates/xsx/out/xsx
-[ -x "$program" ] || { echo "no $program: run 'rt run' in crates/xsx first" >&2; exit 1; }
-timer=$(command -v time || true)
-[ -x /usr/bin/time ] && timer=/usr/bin/time
-folder=$(mktemp -d)
-trap 'rm -rf "$folder"' EXIT
-
-# A picture of so many bytes: a ramp that repeats, or noise.
-make_picture() {
-    case $1 in
-    pattern) yes 'grey ramp 0123456789 abcdefghijklmnopqrstuvwxyz' | tr '\n' ' ' | head -c "$2" ;;
-    noise) head -c "$2" /dev/urandom ;;
-    esac
-}
+. "$(dirname "$0")/common.sh"
+program=$(built xsx 'rt run')
 
 # Runs a command from one file to another; says what it is, how many bytes came, and what a sample of the picture cost.
 timed() {

@@ -2,24 +2,9 @@
 # Encodes pictures of many sizes at every number of wavelet levels, and compares each codestream with that of a slow program
 # that is written straight from docs/FORMAT.md (bench/reference.py); then each of the two decodes what the other wrote.
 # It uses the built program (crates/xsx/out/xsx, after `rt run` there or a whole `rt ci`), and python3.
-set -eu
-
-top=$(cd "$(dirname "$0")/.." && pwd)
-program=$top/crates/xsx/out/xsx
-[ -x "$program" ] || { echo "no $program: run 'rt run' in crates/xsx first" >&2; exit 1; }
+. "$(dirname "$0")/common.sh"
+program=$(built xsx 'rt run')
 command -v python3 >/dev/null || { echo "no python3: skipped" >&2; exit 0; }
-folder=$(mktemp -d)
-trap 'rm -rf "$folder"' EXIT
-
-# A picture of so many bytes: black, white, a ramp that repeats, or noise.
-make_picture() {
-    case $1 in
-    black) head -c "$2" /dev/zero ;;
-    white) head -c "$2" /dev/zero | tr '\0' '\377' ;;
-    pattern) yes 'grey ramp 0123456789 abcdefghijklmnopqrstuvwxyz' | tr '\n' ' ' | head -c "$2" ;;
-    noise) head -c "$2" /dev/urandom ;;
-    esac
-}
 
 # Compares the two programs on one picture.
 compare() {

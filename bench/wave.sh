@@ -3,15 +3,8 @@
 # same steps: nanoseconds a sample, the median of five runs.
 # It uses the built program (crates/xs_wave_bench/out/xs_wave_bench, after `rt run` there or a whole `rt ci`), rustc and
 # GNU time.
-set -eu
-
-top=$(cd "$(dirname "$0")/.." && pwd)
-proved=$top/crates/xs_wave_bench/out/xs_wave_bench
-[ -x "$proved" ] || { echo "no $proved: run 'rt run -- split 1' in crates/xs_wave_bench first" >&2; exit 1; }
-timer=$(command -v time || true)
-[ -x /usr/bin/time ] && timer=/usr/bin/time
-folder=$(mktemp -d)
-trap 'rm -rf "$folder"' EXIT
+. "$(dirname "$0")/common.sh"
+proved=$(built xs_wave_bench 'rt run -- split 1')
 
 cat >"$folder/plain.rs" <<'RUST'
 use std::hint::black_box;

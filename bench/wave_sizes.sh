@@ -2,11 +2,7 @@
 # Splits and joins planes of many sizes, odd ones and the smallest among them, with random numbers and with the greatest,
 # and compares each with a slow program in plain Rust that is written straight from the formulas. What is compared is a hash
 # of all numbers of each result. It uses rt and rustc, and works on a copy of the crates in a folder of its own.
-set -eu
-
-top=$(cd "$(dirname "$0")/.." && pwd)
-folder=$(mktemp -d)
-trap 'rm -rf "$folder"' EXIT
+. "$(dirname "$0")/common.sh"
 
 mkdir -p "$folder/crates/wave_sizes/src"
 for crate in xs_io xs_lists xs_layout xs_signal xs_wave; do
