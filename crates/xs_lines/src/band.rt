@@ -1,4 +1,4 @@
-//! A band's row of coefficients in one picture line.
+//! A line of a band: its row of coefficients.
 ghost use Rattle.std.specs.Prelude.{◌≡◌, ℕ, ℤ, ◌+◌, ◌*◌, ◌/◌, ◌<◌, ◌≤◌, ◌^◌, ◌++◌, length, pos, IfOk, unsigned_abs};
 ghost use Rattle.xs_signal.specs.Lines.{AllBelow, entries_of};
 ghost use Rattle.xs_signal.specs.Fold.{IsFraction, fold as fold_of};

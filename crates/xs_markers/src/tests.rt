@@ -115,7 +115,7 @@ const DEEP_WEIGHTS: [Weight; 10] = [
     },
 ];
 
-// The same header in a codestream of 232 bytes, and the marker of a slice.
+// The grey header in a codestream of 232 bytes, and the marker of a slice.
 const READ: [u8; 50] = [
     0xff, 0x10, //
     0xff, 0x50, 0, 2, //
@@ -178,10 +178,16 @@ fn headers_of_all_splits_are_read(rt: HostRuntime) -> Result<(), Fail> {
         (0x10, 6, 2, 48),
         (0x11, 10, 4, 52),
         (0x20, 8, 3, 50),
+        (0x21, 12, 5, 54),
         (0x22, 16, 7, 58),
+        (0x30, 10, 4, 52),
         (0x31, 14, 6, 56),
+        (0x32, 18, 8, 60),
         (0x40, 12, 5, 54),
+        (0x41, 16, 7, 58),
+        (0x42, 20, 9, 62),
         (0x50, 14, 6, 56),
+        (0x51, 18, 8, 60),
         (0x52, 22, 10, 64),
     ];
     let alloc = rt.alloc();

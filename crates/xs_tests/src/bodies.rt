@@ -170,11 +170,12 @@ fn the_encoder_agrees_with_the_plain_program_at_every_depth(rt: HostRuntime) -> 
     let pictures = [
         picture(32, 4, Content::Noise, 4, 4000),
         picture(33, 5, Content::Extremes, 1, 4000),
-        picture(35, 7, Content::Noise, 2, 4000),
+        picture(35, 6, Content::Noise, 2, 4000),
         picture(37, 17, Content::Ramp, 3, 4000),
         picture(65, 33, Content::Noise, 1, 4000),
-        // over their share: the first slice, or none where there are many levels
-        picture(32, 17, Content::BlackBelow, 4, 273),
+        // over its share: the second slice at one or two levels across and none down, none at more levels across and none down,
+        // and the first slice elsewhere
+        picture(32, 17, Content::BlackBelow, 4, 100),
     ];
     for depth in DEPTHS {
         for case in pictures {

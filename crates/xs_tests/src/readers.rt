@@ -354,17 +354,19 @@ fn pictures_of_every_depth_come_back(rt: HostRuntime) -> Result<(), Fail> {
     let sizes = [
         ("--width 32 --height 4 --slice 4", 32, 4),
         ("--width 33 --height 5 --slice 1", 33, 5),
-        ("--width 37 --height 9 --slice 2", 37, 9),
+        ("--width 37 --height 10 --slice 2", 37, 10),
         ("--width 65 --height 33 --slice 3", 65, 33),
     ];
     let first = "encode --form xs --format mono --quant deadzone --share 8000";
     for (across, down) in DEPTHS {
         for (size, width, height) in sizes {
-            let picture = samples(alloc, width, height, 2)?;
             let mut words = words_of(alloc, first, size)?;
             let levels = format!(in alloc; "--nlx {across} --nly {down}")?;
             push_words(alloc, &mut words, levels.as_str())?;
-            assert!(rt; comes_back(&rt, alloc, words.as_slice(), &picture)?);
+            for content in 0..3 {
+                let picture = samples(alloc, width, height, content)?;
+                assert!(rt; comes_back(&rt, alloc, words.as_slice(), &picture)?);
+            }
         }
     }
     Ok(())
