@@ -1,5 +1,5 @@
 -- A slice where a precinct is of a form that is not read yet: it is read up to there.
-use Rattle.std.proofs.Common.{◌≡◌, ℕ, zero, suc, ◌+◌, ◌-◌, ◌*◌, ◌<◌, ◌≤◌, inl, inr, List, [], ◌∷◌, ◌++◌, take, drop, length, refl, sym, ap, subst, ◌∙◌, arith, min, append_assoc}
+use Rattle.std.proofs.Common.{◌≡◌, ℕ, zero, suc, ◌+◌, ◌-◌, ◌*◌, ◌<◌, ◌≤◌, inl, inr, List, [], ◌∷◌, ◌++◌, drop, length, refl, sym, ap, subst, ◌∙◌, arith, min, append_assoc}
 use Rattle.std.specs.Prelude.{◌⊎◌, ⊤}
 use Rattle.std.specs.List.{range_with_len, AllByRecursion}
 use Rattle.std.proofs.lemmas.List.{take-append-drop}
@@ -31,9 +31,9 @@ three zero zero = inr (inl refl)
 three zero (suc b) = inl (omega arith)
 three (suc a) zero = inr (inr (omega arith))
 three (suc a) (suc b) = elim (three a b) [
-    | inl less ↦ inl (omega (arith, less))
-    | inr other ↦ elim other [ inl same ↦ inr (inl (ap suc same)) | inr more ↦ inr (inr (omega (arith, more))) ]
-  ]
+  | inl less ↦ inl (omega (arith, less))
+  | inr other ↦ elim other [ inl same ↦ inr (inl (ap suc same)) | inr more ↦ inr (inr (omega (arith, more))) ]
+]
 
 -- the numbers of a range before one of them
 record StandsIn (first n k : ℕ) (earlier : List ℕ) : Type 0 where
@@ -173,12 +173,12 @@ module _ (h : Header) (slice : ℕ) (rows : List BandLines) (bytes : List ℕ) (
       → ((number : ℕ) → IsUnbuilt h precinct (drop place bytes) number → (f ≡ precinct_fault.Unbuilt number) ⊎ (f ≡ precinct_fault.Memory))
       → (slice_fault_of precinct f ≡ fault.Precinct target (precinct_fault.Unbuilt packet)) ⊎ (slice_fault_of precinct f ≡ fault.Memory)
   refused_unbuilt f none exact = elim (three precinct target) [
-      | inl before ↦ inr (ap (slice_fault_of precinct) (memory_alone f before none))
-      | inr other ↦ elim other [
-          | inl same ↦ elim (exact packet (here_unbuilt same)) [
-              | inl named ↦ inl (ap (slice_fault_of precinct) named ∙ ap (λ k. fault.Precinct k (precinct_fault.Unbuilt packet)) same)
-              | inr memory ↦ inr (ap (slice_fault_of precinct) memory)
-            ]
-          | inr past ↦ absurd (not_passed past)
-        ]
+    | inl before ↦ inr (ap (slice_fault_of precinct) (memory_alone f before none))
+    | inr other ↦ elim other [
+      | inl same ↦ elim (exact packet (here_unbuilt same)) [
+        | inl named ↦ inl (ap (slice_fault_of precinct) named ∙ ap (λ k. fault.Precinct k (precinct_fault.Unbuilt packet)) same)
+        | inr memory ↦ inr (ap (slice_fault_of precinct) memory)
+      ]
+      | inr past ↦ absurd (not_passed past)
     ]
+  ]

@@ -1,5 +1,5 @@
 use Rattle.std.proofs.Common.{◌≡◌, inl, inr, ℕ, ◌+◌, ◌*◌, ◌<◌, ◌≤◌, ◌++◌, map, take, drop, length, sym, ap, subst, ◌∙◌, arith, min, length-drop}
-use Rattle.std.specs.Prelude.{Result, Ok, Err}
+use Rattle.std.specs.Prelude.{Result, Err}
 use Rattle.std.proofs.Math.Seq.{take-append_seam}
 use Rattle.xs_params.specs.declared.header.Header.{Header}
 use Rattle.xs_grammar.specs.Geometry.{precinct_count}
@@ -8,8 +8,6 @@ use Rattle.xs_geometry.specs.SliceLines.{AreLinesOf}
 use Rattle.xs_geometry.proofs.WrittenRows.{accepted_ranges, geometry_kept}
 use Rattle.xs_faults.specs.declared.PrecinctFault.{PrecinctFault}
 use Rattle.xs_faults.specs.declared.PrecinctFault.TheVariants as precinct_fault
-use Rattle.xs_faults.specs.declared.SliceFault.{SliceFault}
-use Rattle.xs_faults.specs.declared.SliceFault.TheVariants as slice_fault
 use Rattle.xs_decoding.specs.Built.{IsUnbuilt}
 use Rattle.xs_decoding.proofs.Precincts.{precinct_ends, precinct_is_local}
 use Rattle.xs_read_lines.specs.ReadLine.{Buffered}
