@@ -18,7 +18,7 @@ use Rattle.xs_geometry.specs.SliceLines.{BandLines}
 use Rattle.xs_geometry.proofs.WrittenRows.{accepted_ranges}
 use Rattle.xs_decoding.specs.Built.{HasBuiltValues, IsBuiltPrecinct, IsUnbuilt}
 use Rattle.xs_decoding.proofs.Precincts.{precinct_ends}
-use Rattle.xs_decoding.proofs.Unread.{built_is_built}
+use Rattle.xs_decoding.proofs.Unread.{built_is_built, one_unbuilt}
 use Rattle.xs_slice_read.specs.Precinct.{BeginWithPrecinct, IsPrecinctRefusal}
 use Rattle.xs_slice_read.specs.Slice.{slice_fault_of, IsUnbuiltIn}
 use Rattle.xs_slice_read.proofs.PlainPrecincts.{precinct_begins}
@@ -101,79 +101,111 @@ has_precinct h content first k end list low high p = record {
     here : SpellsEach (IsBuiltPrecinct h content) (k ∷ later) cut.1
     here = cut.4
 
--- A slice that is read up to a place and a precinct, where another precinct of it is of such a form
+-- A slice that is read up to a precinct, where another precinct of it is of such a form
 
-module _ (h : Header) (slice : ℕ) (rows : List BandLines) (bytes : List ℕ) (place precinct target packet : ℕ) (accepted : IsAccepted h) (values : HasBuiltValues h) (low : slice * h.hsl ≤ precinct)
-    (so : SliceSoFar h slice rows bytes place precinct) (u : IsUnbuiltIn h slice bytes target packet) where
-  stands : StandsIn (slice * h.hsl) (min ((slice + 1) * h.hsl) (precinct_count h) - slice * h.hsl) target u.earlier
-  stands = stands_in (slice * h.hsl) (min ((slice + 1) * h.hsl) (precinct_count h) - slice * h.hsl) target u.earlier u.later u.order
+-- the precincts before one are those of a content
+pub record AreBefore (h : Header) (slice : ℕ) (bytes : List ℕ) (precinct : ℕ) (rest : List ℕ) : Type 0 where
+  pub content : Content
+  pub front : List ℕ
+  pub low : slice * h.hsl ≤ precinct
+  pub joined : bytes ≡ slice_head slice ++ (front ++ rest)
+  pub spelled : SpellsEach (IsBuiltPrecinct h content) (range_with_len (slice * h.hsl) (precinct - slice * h.hsl)) front
 
-  spelled : SpellsEach (IsBuiltPrecinct h u.content) (range_with_len (slice * h.hsl) (target - slice * h.hsl)) u.precincts
-  spelled = subst (λ l. SpellsEach (IsBuiltPrecinct h u.content) l u.precincts) stands.before u.spelled
+pub so_far_before : (h : Header) (slice : ℕ) (rows : List BandLines) (bytes : List ℕ) (place precinct : ℕ) → slice * h.hsl ≤ precinct → SliceSoFar h slice rows bytes place precinct → AreBefore h slice bytes precinct (drop place bytes)
+so_far_before h slice rows bytes place precinct low so = record {
+  content = so.content;
+  front = so.front;
+  low = low;
+  joined = sym (take-append-drop place bytes) ∙ ap (λ l. l ++ drop place bytes) so.joined ∙ append_assoc (slice_head slice) so.front (drop place bytes);
+  spelled = so.spelled;
+}
 
-  whole : so.front ++ drop place bytes ≡ u.precincts ++ u.rest
-  whole = (append_cut (slice_head slice) (slice_head slice) (so.front ++ drop place bytes) (u.precincts ++ u.rest) refl
-      (sym (append_assoc (slice_head slice) so.front (drop place bytes)) ∙ ap (λ l. l ++ drop place bytes) (sym so.joined) ∙ take-append-drop place bytes ∙ u.joined)).1
+unbuilt_before : (h : Header) (slice : ℕ) (bytes : List ℕ) (precinct packet : ℕ) → (u : IsUnbuiltIn h slice bytes precinct packet) → AreBefore h slice bytes precinct u.rest
+unbuilt_before h slice bytes precinct packet u =
+    let stands = stands_in (slice * h.hsl) (min ((slice + 1) * h.hsl) (precinct_count h) - slice * h.hsl) precinct u.earlier u.later u.order in
+    record {
+      content = u.content;
+      front = u.precincts;
+      low = stands.low;
+      joined = u.joined;
+      spelled = subst (λ l. SpellsEach (IsBuiltPrecinct h u.content) l u.precincts) stands.before u.spelled;
+    }
+
+module _ (h : Header) (slice : ℕ) (bytes : List ℕ) (precinct target packet : ℕ) (rest : List ℕ) (accepted : IsAccepted h) (values : HasBuiltValues h) (so : AreBefore h slice bytes precinct rest)
+    (u : IsUnbuiltIn h slice bytes target packet) where
+  abbrev first : ℕ
+  first = slice * h.hsl
+
+  before : AreBefore h slice bytes target u.rest
+  before = unbuilt_before h slice bytes target packet u
+
+  whole : so.front ++ rest ≡ before.front ++ u.rest
+  whole = (append_cut (slice_head slice) (slice_head slice) (so.front ++ rest) (before.front ++ u.rest) refl (sym so.joined ∙ before.joined)).1
 
   -- it is not read
   not_passed : target < precinct → ⊥
   not_passed past =
-      built_is_built h so.content target packet one.part (one.after ++ drop place bytes) accepted values.runs values.signs one.built (subst (λ l. IsUnbuilt h target l packet) (sym rests) u.unbuilt)
+      built_is_built h so.content target packet one.part (one.after ++ rest) accepted values.runs values.signs one.built (subst (λ l. IsUnbuilt h target l packet) (sym rests) u.unbuilt)
     where
-      one : HasPrecinct h so.content (slice * h.hsl) target so.front
-      one = has_precinct h so.content (slice * h.hsl) target precinct so.front stands.low past so.spelled
+      one : HasPrecinct h so.content first target so.front
+      one = has_precinct h so.content first target precinct so.front before.low past so.spelled
 
-      rests : one.part ++ (one.after ++ drop place bytes) ≡ u.rest
-      rests = same_rests h so.content u.content (slice * h.hsl) (target - slice * h.hsl) one.before u.precincts (one.part ++ (one.after ++ drop place bytes)) u.rest one.spelled spelled
-          (ap (λ l. one.before ++ l) (sym (append_assoc one.part one.after (drop place bytes))) ∙ sym (append_assoc one.before (one.part ++ one.after) (drop place bytes)) ∙ ap (λ l. l ++ drop place bytes) (sym one.joined) ∙ whole)
+      rests : one.part ++ (one.after ++ rest) ≡ u.rest
+      rests = same_rests h so.content before.content first (target - first) one.before before.front (one.part ++ (one.after ++ rest)) u.rest one.spelled before.spelled
+          (ap (λ l. one.before ++ l) (sym (append_assoc one.part one.after rest)) ∙ sym (append_assoc one.before (one.part ++ one.after) rest) ∙ ap (λ l. l ++ rest) (sym one.joined) ∙ whole)
 
   -- so not all are read
   pub none_passed : precinct ≡ min ((slice + 1) * h.hsl) (precinct_count h) → ⊥
-  none_passed end = not_passed (omega (arith, end, stands.low, stands.high))
+  none_passed end =
+      let stands = stands_in first (min ((slice + 1) * h.hsl) (precinct_count h) - first) target u.earlier u.later u.order in
+      not_passed (omega (arith, end, stands.low, stands.high))
 
   -- it stands here
-  here_unbuilt : precinct ≡ target → IsUnbuilt h precinct (drop place bytes) packet
-  here_unbuilt same = subst (λ k. IsUnbuilt h k (drop place bytes) packet) (sym same) (subst (λ l. IsUnbuilt h target l packet) (sym rests) u.unbuilt)
+  here_unbuilt : precinct ≡ target → IsUnbuilt h precinct rest packet
+  here_unbuilt same = subst (λ k. IsUnbuilt h k rest packet) (sym same) (subst (λ l. IsUnbuilt h target l packet) (sym rests) u.unbuilt)
     where
-      rests : drop place bytes ≡ u.rest
-      rests = same_rests h so.content u.content (slice * h.hsl) (target - slice * h.hsl) so.front u.precincts (drop place bytes) u.rest
-          (subst (λ k. SpellsEach (IsBuiltPrecinct h so.content) (range_with_len (slice * h.hsl) (k - slice * h.hsl)) so.front) same so.spelled) spelled whole
+      rests : rest ≡ u.rest
+      rests = same_rests h so.content before.content first (target - first) so.front before.front rest u.rest
+          (subst (λ k. SpellsEach (IsBuiltPrecinct h so.content) (range_with_len first (k - first)) so.front) same so.spelled) before.spelled whole
 
   -- a precinct that is read stands here
-  built_here : precinct < target → (part : List ℕ) × (more : List ℕ) × (drop place bytes ≡ part ++ more) × IsBuiltPrecinct h u.content precinct part
-  built_here before = (one.part, one.after ++ u.rest, rests, one.built)
+  built_here : precinct < target → (part : List ℕ) × (more : List ℕ) × (rest ≡ part ++ more) × IsBuiltPrecinct h before.content precinct part
+  built_here less = (one.part, one.after ++ u.rest, rests, one.built)
     where
-      one : HasPrecinct h u.content (slice * h.hsl) precinct u.precincts
-      one = has_precinct h u.content (slice * h.hsl) precinct target u.precincts low before spelled
+      one : HasPrecinct h before.content first precinct before.front
+      one = has_precinct h before.content first precinct target before.front so.low less before.spelled
 
-      rests : drop place bytes ≡ one.part ++ (one.after ++ u.rest)
-      rests = same_rests h so.content u.content (slice * h.hsl) (precinct - slice * h.hsl) so.front one.before (drop place bytes) (one.part ++ (one.after ++ u.rest)) so.spelled one.spelled
+      rests : rest ≡ one.part ++ (one.after ++ u.rest)
+      rests = same_rests h so.content before.content first (precinct - first) so.front one.before rest (one.part ++ (one.after ++ u.rest)) so.spelled one.spelled
           (whole ∙ ap (λ l. l ++ u.rest) one.joined ∙ append_assoc one.before (one.part ++ one.after) u.rest ∙ ap (λ l. one.before ++ l) (append_assoc one.part one.after u.rest))
 
-  -- which is refused for want of memory alone
-  memory_alone : (f : PrecinctFault) → precinct < target → IsPrecinctRefusal h precinct (drop place bytes) f → f ≡ precinct_fault.Memory
-  memory_alone f before none = cases f none
+  -- which is of no such form
+  here_built : (number : ℕ) → precinct < target → IsUnbuilt h precinct rest number → ⊥
+  here_built number less v =
+      let here = built_here less in
+      built_is_built h before.content precinct number here.0 here.1 accepted values.runs values.signs here.3 (subst (λ l. IsUnbuilt h precinct l number) here.2 v)
+
+  -- and is refused for want of memory alone
+  memory_alone : (f : PrecinctFault) → precinct < target → IsPrecinctRefusal h precinct rest f → f ≡ precinct_fault.Memory
+  memory_alone f less none = cases f none
     where
-      here : (part : List ℕ) × (more : List ℕ) × (drop place bytes ≡ part ++ more) × IsBuiltPrecinct h u.content precinct part
-      here = built_here before
+      begins : BeginWithPrecinct h precinct rest
+      begins =
+          let here = built_here less in
+          subst (BeginWithPrecinct h precinct) (sym here.2) (precinct_begins h before.content precinct here.0 here.1 values.signs (accepted_ranges h accepted).0 here.3)
 
-      begins : BeginWithPrecinct h precinct (drop place bytes)
-      begins = subst (BeginWithPrecinct h precinct) (sym here.2) (precinct_begins h u.content precinct here.0 here.1 values.signs (accepted_ranges h accepted).0 here.3)
-
-      cases : (f : PrecinctFault) → IsPrecinctRefusal h precinct (drop place bytes) f → f ≡ precinct_fault.Memory
+      cases : (f : PrecinctFault) → IsPrecinctRefusal h precinct rest f → f ≡ precinct_fault.Memory
       cases (precinct_fault.Overrun number part) none = absurd (none begins)
       cases (precinct_fault.Count number value) none = absurd (none begins)
       cases precinct_fault.Truncated none = absurd (none begins)
-      cases (precinct_fault.Unbuilt number) none =
-          absurd (built_is_built h u.content precinct number here.0 here.1 accepted values.runs values.signs here.3 (subst (λ l. IsUnbuilt h precinct l number) here.2 none))
+      cases (precinct_fault.Unbuilt number) none = absurd (here_built number less none)
       cases precinct_fault.Memory none = refl
 
   -- so the refusal of the precinct here names the one of such a form, or it is want of memory
-  pub refused_unbuilt : (f : PrecinctFault) → IsPrecinctRefusal h precinct (drop place bytes) f
-      → ((number : ℕ) → IsUnbuilt h precinct (drop place bytes) number → (f ≡ precinct_fault.Unbuilt number) ⊎ (f ≡ precinct_fault.Memory))
+  pub refused_unbuilt : (f : PrecinctFault) → IsPrecinctRefusal h precinct rest f → ((number : ℕ) → IsUnbuilt h precinct rest number → (f ≡ precinct_fault.Unbuilt number) ⊎ (f ≡ precinct_fault.Memory))
       → (slice_fault_of precinct f ≡ fault.Precinct target (precinct_fault.Unbuilt packet)) ⊎ (slice_fault_of precinct f ≡ fault.Memory)
   refused_unbuilt f none exact = elim (three precinct target) [
-    | inl before ↦ inr (ap (slice_fault_of precinct) (memory_alone f before none))
+    | inl less ↦ inr (ap (slice_fault_of precinct) (memory_alone f less none))
     | inr other ↦ elim other [
       | inl same ↦ elim (exact packet (here_unbuilt same)) [
         | inl named ↦ inl (ap (slice_fault_of precinct) named ∙ ap (λ k. fault.Precinct k (precinct_fault.Unbuilt packet)) same)
@@ -182,3 +214,19 @@ module _ (h : Header) (slice : ℕ) (rows : List BandLines) (bytes : List ℕ) (
       | inr past ↦ absurd (not_passed past)
     ]
   ]
+
+  -- and where one stands here, it is that
+  one_here : (number : ℕ) → IsUnbuilt h precinct rest number → (precinct ≡ target) × (number ≡ packet)
+  one_here number v = elim (three precinct target) [
+    | inl less ↦ absurd (here_built number less v)
+    | inr other ↦ elim other [
+      | inl same ↦ (same, one_unbuilt h precinct number packet rest (omega (arith, accepted.nly)) v (here_unbuilt same))
+      | inr past ↦ absurd (not_passed past)
+    ]
+  ]
+
+-- a slice has one such packet, the first
+pub one_unbuilt_in : (h : Header) (slice : ℕ) (bytes : List ℕ) (precinct packet target number : ℕ) → IsAccepted h → HasBuiltValues h → IsUnbuiltIn h slice bytes precinct packet → IsUnbuiltIn h slice bytes target number
+    → (precinct ≡ target) × (packet ≡ number)
+one_unbuilt_in h slice bytes precinct packet target number accepted values u v =
+    one_here h slice bytes precinct target number u.rest accepted values (unbuilt_before h slice bytes precinct packet u) v packet u.unbuilt

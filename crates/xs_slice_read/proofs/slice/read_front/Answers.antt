@@ -15,7 +15,7 @@ use Rattle.xs_slice_read.specs.Precinct.{band_groups, IsPrecinctRead, IsPrecinct
 use Rattle.xs_slice_read.specs.Slice.{IsSliceRefusal}
 use Rattle.xs_slice_read.proofs.Started.{bands_counted}
 use Rattle.xs_slice_read.proofs.Slices.{nothing_yet, in_precincts, so_far_more, slice_done, precinct_refused, rest_is}
-use Rattle.xs_slice_read.proofs.UnbuiltIn.{none_passed, refused_unbuilt}
+use Rattle.xs_slice_read.proofs.UnbuiltIn.{so_far_before, none_passed, refused_unbuilt}
 use Rattle.xs_slice_read.proofs.slice.read_front.Goals as goal
 
 last : (a b : ℕ) → b ≤ a → a ≤ b → a ≡ b
@@ -74,7 +74,7 @@ returns-in-Err-read_precinct-clause-unbuilt c = λ target packet u.
     let f = c.in-Err-read_precinct.fault in
     let low = not_before h c.of-geometry.result slice c.slice_precincts-first.result.0 precinct c.of-geometry.ensures c.slice_precincts-first.ensures.first c.precincts.auto.precinct in
     let none = subst (λ l. IsPrecinctRefusal h precinct l f) (rest_is place bytes) c.in-Err-read_precinct.ensures.refused in
-    elim (refused_unbuilt h slice c.precincts.rows bytes place precinct target packet c.requires.accepted c.requires.built low c.precincts.invariant.read u f none
+    elim (refused_unbuilt h slice bytes precinct target packet (drop place bytes) c.requires.accepted c.requires.built (so_far_before h slice c.precincts.rows bytes place precinct low c.precincts.invariant.read) u f none
     (λ number p. elim (c.in-Err-read_precinct.ensures.unbuilt number (subst (λ l. IsUnbuilt h precinct l number) (sym (rest_is place bytes)) p)) [
       | inl e ↦ inl (err_one f (precinct_fault.Unbuilt number) e)
       | inr e ↦ inr (err_one f precinct_fault.Memory e.1)
@@ -128,4 +128,5 @@ returns-clause-unbuilt c = λ target packet u.
     let end : precinct ≡ min ((slice + 1) * h.hsl) (precinct_count h) =
     last precinct c.slice_precincts-first.result.1 c.precincts-test.false (c.precincts.auto.precinct-end (omega (arith, c.slice_precincts-first.ensures.some)))
     ∙ end_is h c.of-geometry.result slice c.slice_precincts-first.result.1 c.of-geometry.ensures c.slice_precincts-first.ensures.end in
-    absurd (none_passed h slice c.precincts.rows c.args.bytes.now c.precincts.place precinct target packet c.requires.accepted c.requires.built low c.precincts.invariant.read u end)
+    absurd (none_passed h slice c.args.bytes.now precinct target packet (drop c.precincts.place c.args.bytes.now) c.requires.accepted c.requires.built
+    (so_far_before h slice c.precincts.rows c.args.bytes.now c.precincts.place precinct low c.precincts.invariant.read) u end)
