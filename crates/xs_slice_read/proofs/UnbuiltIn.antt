@@ -26,7 +26,7 @@ use Rattle.xs_slice_read.proofs.Slices.{SliceSoFar, split_at}
 
 -- Numbers
 
-three : (a b : ℕ) → (a < b) ⊎ ((a ≡ b) ⊎ (b < a))
+pub three : (a b : ℕ) → (a < b) ⊎ ((a ≡ b) ⊎ (b < a))
 three zero zero = inr (inl refl)
 three zero (suc b) = inl (omega arith)
 three (suc a) zero = inr (inr (omega arith))
