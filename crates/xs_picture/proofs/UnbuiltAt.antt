@@ -16,14 +16,14 @@ use Rattle.xs_grammar.specs.Geometry.{slice_count}
 use Rattle.xs_grammar.specs.Header.{IsAccepted, IsHeaderFront}
 use Rattle.xs_grammar.specs.Laws.{FollowsHeader}
 use Rattle.xs_grammar.specs.Precinct.{Content}
-use Rattle.xs_grammar.specs.Slice.{slh, slice_head, IsSlice}
+use Rattle.xs_grammar.specs.Slice.{eoc, slh, slice_head, IsSlice}
 use Rattle.xs_grammar.proofs.OneHeader.{one_header}
 use Rattle.xs_geometry.specs.SliceLines.{BandLines}
-use Rattle.xs_decoding.specs.Built.{HasBuiltValues, IsBuiltHeader, IsBuiltSlice, IsUnbuiltAt}
+use Rattle.xs_decoding.specs.Built.{HasBuiltValues, HasNoBuiltFront, IsBuiltHeader, IsBuiltSlice, IsUnbuiltAt}
 use Rattle.xs_slice_read.specs.Slice.{IsUnbuiltIn, IsSliceRefusal}
 use Rattle.xs_slice_read.proofs.UnbuiltIn.{three, one_unbuilt_in}
 use Rattle.xs_picture.specs.StreamRead.{IsHeaderRead, AreSlicesRead}
-use Rattle.xs_picture.proofs.StreamsRead.{all_slices, below_of, slices_agree, slices_begin, slices_cut}
+use Rattle.xs_picture.proofs.StreamsRead.{HasTail, tail_of, all_slices, below_of, slices_agree, slices_begin, slices_cut}
 use Rattle.xs_picture.proofs.Unbuilt.{no_built_slice}
 
 -- The header
@@ -271,3 +271,34 @@ one_unbuilt_at bytes slice precinct packet target other number u v =
 
     first : HasUnbuilt u.h (drop start bytes) slice precinct packet
     first = has_unbuilt u.h bytes start slice precinct packet head u
+
+-- and no codestream that is read stands at their front
+pub unbuilt_no_front : (bytes : List ℕ) (slice precinct packet : ℕ) → IsUnbuiltAt bytes slice precinct packet → HasNoBuiltFront bytes
+unbuilt_no_front bytes slice precinct packet u other content n front =
+    no_built_slice u.h content slice precinct packet first.rest one.part (one.after ++ after) head.headed.spelled.accepted head.headed.values first.unbuilt (sym rests) one.built
+  where
+    start : ℕ
+    start = length u.header
+
+    head : IsHeaderRead u.h bytes start
+    head = header_read bytes slice precinct packet u
+
+    first : HasUnbuilt u.h (drop start bytes) slice precinct packet
+    first = has_unbuilt u.h bytes start slice precinct packet head u
+
+    tail : HasTail u.h content bytes start
+    tail = tail_of u.h other content bytes start n head front
+
+    after : List ℕ
+    after = eoc ++ tail.rest
+
+    one : HasSlice u.h content slice tail.slices
+    one = has_slice u.h content slice (slice_count u.h) tail.slices first.there tail.spelled
+
+    rests : one.part ++ (one.after ++ after) ≡ first.rest
+    rests = slices_agree u.h content first.content slice one.before first.slices (one.part ++ (one.after ++ after)) first.rest (below_of u.h head.headed.spelled.accepted) one.spelled first.before
+        (ap (λ l. one.before ++ l) (sym (append_assoc one.part one.after after)) ∙ sym (append_assoc one.before (one.part ++ one.after) after) ∙ ap (λ l. l ++ after) (sym one.joined) ∙ sym tail.joined ∙ first.joined)
+
+pub some_unbuilt : (slice precinct packet : ℕ) → IsUnbuiltAt [] slice precinct packet → ⊥
+some_unbuilt slice precinct packet u =
+    absurd (omega (arith, ap length u.joined, length-append u.header (u.slices ++ (slice_head slice ++ (u.precincts ++ u.rest))), length-append u.slices (slice_head slice ++ (u.precincts ++ u.rest)), length-append (slice_head slice) (u.precincts ++ u.rest)))
