@@ -405,18 +405,18 @@ never_damaged true (Err budget) damage e = cc
 never_damaged false x damage e = cc
 
 names_damage : (input : List ℕ) (damage : Damage) → IsDamage input damage → NamesFault (damage_note damage)
-names_damage input (damage.Header fault) given = given
-names_damage input (damage.Length stated actual) given = given
-names_damage input (damage.Slice slice slice_fault.Short) given = given
-names_damage input (damage.Slice slice slice_fault.Head) given = given
-names_damage input (damage.Slice slice (slice_fault.Trailing place)) given = given
-names_damage input (damage.Slice slice slice_fault.End) given = given
-names_damage input (damage.Slice slice slice_fault.Memory) given = given
-names_damage input (damage.Slice slice (slice_fault.Precinct number precinct_fault.Truncated)) given = given
-names_damage input (damage.Slice slice (slice_fault.Precinct number (precinct_fault.Overrun packet part))) given = given
-names_damage input (damage.Slice slice (slice_fault.Precinct number (precinct_fault.Count packet value))) given = given
+names_damage input (damage.Header fault) given = given.1
+names_damage input (damage.Length stated actual) given = given.1
+names_damage input (damage.Slice slice slice_fault.Short) given = given.1
+names_damage input (damage.Slice slice slice_fault.Head) given = given.1
+names_damage input (damage.Slice slice (slice_fault.Trailing place)) given = given.1
+names_damage input (damage.Slice slice slice_fault.End) given = given.1
+names_damage input (damage.Slice slice slice_fault.Memory) given = given.1
+names_damage input (damage.Slice slice (slice_fault.Precinct number precinct_fault.Truncated)) given = given.1
+names_damage input (damage.Slice slice (slice_fault.Precinct number (precinct_fault.Overrun packet part))) given = given.1
+names_damage input (damage.Slice slice (slice_fault.Precinct number (precinct_fault.Count packet value))) given = given.1
 names_damage input (damage.Slice slice (slice_fault.Precinct number (precinct_fault.Unbuilt packet))) given = λ e. cc
-names_damage input (damage.Slice slice (slice_fault.Precinct number precinct_fault.Memory)) given = given
+names_damage input (damage.Slice slice (slice_fault.Precinct number precinct_fault.Memory)) given = given.1
 
 pub names_stop : (words : List (List ℕ)) (source : Change) (why : Stop) → IsFollowed words source (Err why) → NamesStop why
 names_stop words source (stop.Words place) follow = tt

@@ -86,6 +86,7 @@ abbrev pub said_of : Result (List ℕ) Stop → Said
 said_of (Ok out) = record { out = out; notes = []; status = 0 }
 said_of (Err stop) = record { out = []; notes = stop_line stop; status = stop_status stop }
 
--- The answer. Words, an input that is encoded and one that is decoded whole have one each; of a damaged codestream it is not said which line tells it.
+-- The answer. Words, an input that is encoded and one that is decoded whole have one each; of a damaged codestream it is not said which line tells it,
+-- but for a packet of a form that is not read yet, which is told exactly where it stands.
 abbrev pub IsAnswer : List (List ℕ) → List ℕ → Said → Type 0
 IsAnswer words input said = (result : Result (List ℕ) Stop) × IsOutcome words input result × (said ≡ said_of result)

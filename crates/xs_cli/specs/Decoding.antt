@@ -38,6 +38,10 @@ pub record HasNoStream (input : List ℕ) : Type 0 where
   pub some : input ≢ []
   pub none : HasNoBuiltFront input
 
+-- no packet of a form that is not read yet stands after whole slices, precincts and packets
+abbrev pub HasNoUnbuilt : List ℕ → Type 0
+HasNoUnbuilt input = (slice precinct packet : ℕ) → IsUnbuiltAt input slice precinct packet → ⊥
+
 -- What is said of it
 
 -- the output is the raw picture that it decodes to
@@ -56,17 +60,17 @@ damage_note (damage.Header fault) = note.DamagedHeader 0 fault
 damage_note (damage.Slice slice fault) = note.DamagedSlice 0 slice fault
 damage_note (damage.Length stated actual) = note.DamagedLength 0 stated actual
 
--- a packet of a form that is not read yet is where it is said to be; of any other fault it is not said which it is
+-- a packet of a form that is not read yet is where it is said to be; of any other fault it is said only that there is no such packet
 abbrev pub IsDamage : List ℕ → Damage → Type 0
 IsDamage input (damage.Slice slice (slice_fault.Precinct precinct (precinct_fault.Unbuilt packet))) = IsUnbuiltAt input slice precinct packet
-IsDamage input damage = NamesFault (damage_note damage)
+IsDamage input damage = HasNoUnbuilt input × NamesFault (damage_note damage)
 
 -- the result of decoding the input
 abbrev pub IsDecoded : List ℕ → Result (List ℕ) Stop → Type 0
 IsDecoded input (Ok out) = IsDecodedAs input out
 IsDecoded input (Err stop.InputLimit) = input_limit < length input
 IsDecoded input (Err stop.InputForm) = IsWithinLimit input × ((input ≡ []) ⊎ IsFollowedStream input)
-IsDecoded input (Err (stop.InputCut place)) = HasNoStream input × (place ≡ length input)
+IsDecoded input (Err (stop.InputCut place)) = HasNoStream input × HasNoUnbuilt input × (place ≡ length input)
 IsDecoded input (Err (stop.Damaged damage)) = HasNoStream input × IsDamage input damage
 IsDecoded input (Err (stop.Words place)) = ⊥
 IsDecoded input (Err (stop.Setting setting)) = ⊥
@@ -74,11 +78,17 @@ IsDecoded input (Err (stop.Budget budget)) = ⊥
 IsDecoded input (Err stop.ReadFault) = ⊥
 IsDecoded input (Err stop.Memory) = ⊥
 
--- it is a picture exactly where the input is one codestream, and tells of the input's length or form exactly where these are wrong
+-- the packet is told to be of a form that is not read yet
+abbrev pub unbuilt_stop : ℕ → ℕ → ℕ → Stop
+unbuilt_stop slice precinct packet = stop.Damaged (damage.Slice slice (slice_fault.Precinct precinct (precinct_fault.Unbuilt packet)))
+
+-- It is a picture exactly where the input is one codestream, and tells of the input's length or form exactly where these are wrong, and of a packet of a
+-- form that is not read yet exactly where it stands.
 pub record TellsExactly (input : List ℕ) (result : Result (List ℕ) Stop) : Type 0 where
   pub limit : (result ≡ Err stop.InputLimit) ↔ (input_limit < length input)
   pub picture : IsOk result ↔ (IsWithinLimit input × IsOneStream input)
   pub form : (result ≡ Err stop.InputForm) ↔ (IsWithinLimit input × ((input ≡ []) ⊎ IsFollowedStream input))
+  pub unbuilt : (slice precinct packet : ℕ) → (result ≡ Err (unbuilt_stop slice precinct packet)) ↔ (IsWithinLimit input × IsUnbuiltAt input slice precinct packet)
 
 abbrev pub DecodingTellsExactly : Type 0
 DecodingTellsExactly = (input : List ℕ) (result : Result (List ℕ) Stop) → IsDecoded input result → TellsExactly input result

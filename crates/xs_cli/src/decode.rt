@@ -1,19 +1,19 @@
 // One codestream becomes a raw picture.
-ghost use Rattle.std.specs.Prelude.{◌≡◌, ◌≢◌, ℕ, ◌+◌, ◌≤◌, ◌^◌, [], Err, length};
+ghost use Rattle.std.specs.Prelude.{◌≡◌, ◌≢◌, ◌⊎◌, ℕ, ◌+◌, ◌≤◌, ◌^◌, [], Err, length};
 ghost use Rattle.xs_faults.specs.Names.{NamesStreamFault};
 ghost use Rattle.xs_picture.specs.Reading.{IsStreamRefusal};
 ghost use Rattle.xs_words.specs.declared.command.Command.TheVariants as Command;
-ghost use Rattle.xs_decoding.specs.Built.{HasNoBuiltFront, IsBuiltHeader};
+ghost use Rattle.xs_decoding.specs.Built.{HasNoBuiltFront, IsBuiltHeader, IsUnbuiltAt};
 ghost use Rattle.xs_grammar.specs.Geometry.{slice_count};
 ghost use Rattle.xs_grammar.specs.Header.{IsAccepted};
-ghost use Rattle.xs_cli.specs.Decoding.{HasNoStream, IsDecoded, IsWithinLimit};
+ghost use Rattle.xs_cli.specs.Decoding.{HasNoStream, HasNoUnbuilt, IsDecoded, IsWithinLimit};
 ghost use Rattle.xs_cli.specs.Ends.{change_of};
 ghost use Rattle.xs_cli.specs.Steps.{IsDone, IsUnlessMemory};
 
 use crate::raw::raw_bytes;
 use crate::stop::{Damage, INPUT_LIMIT, Stop};
 use std::alloc::Global;
-use xs_faults::{HeadFault, SliceFault, StreamFault};
+use xs_faults::{HeadFault, PrecinctFault, SliceFault, StreamFault};
 use xs_geometry::Geometry;
 use xs_io::{Memory, Octets, Source, TakeFault, take_all};
 use xs_markers::{Header, read_header};
@@ -55,6 +55,7 @@ fn refusal(alloc: Global, bytes: &[u8], fault: StreamFault) -> Stop
     requires some { bytes.now ≢ [] }
     requires refused { IsStreamRefusal bytes.now fault }
     requires named { NamesStreamFault fault }
+    requires unbuilt { (slice precinct packet : ℕ) → IsUnbuiltAt bytes.now slice precinct packet → (fault ≡ StreamFault.Slice slice (SliceFault.Precinct precinct (PrecinctFault.Unbuilt packet))) ⊎ (fault ≡ StreamFault.Memory) }
     ensures { IsUnlessMemory (IsDecoded bytes.now) (Err result) }
 {
     match fault {
@@ -74,7 +75,8 @@ fn refusal(alloc: Global, bytes: &[u8], fault: StreamFault) -> Stop
 
 /// How it is told that the end of a codestream is not there. It names the last slice of the header, which is read again.
 fn bad_end(alloc: Global, bytes: &[u8]) -> Stop
-    requires { HasNoStream bytes.now }
+    requires none { HasNoStream bytes.now }
+    requires built { HasNoUnbuilt bytes.now }
     ensures { IsUnlessMemory (IsDecoded bytes.now) (Err result) }
 {
     match read_header(alloc, bytes) {

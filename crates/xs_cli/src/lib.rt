@@ -13,7 +13,8 @@ mod top;
 
 pub use top::run;
 
-/// What comes of an input of decoding is a picture exactly where the input is one codestream.
+/// What comes of an input of decoding is a picture exactly where the input is one codestream, and tells of its length, of its
+/// form and of a packet of a form that is not read yet exactly where there is cause.
 pub fn decoding_tells_exactly()
     ensures { DecodingTellsExactly }
 {}

@@ -1,6 +1,7 @@
 -- A precinct of the form that is read is of no form that is not.
 use Rattle.std.proofs.Common.{◌≡◌, ℕ, zero, suc, ◌+◌, ◌*◌, ◌/◌, ◌%◌, ◌^◌, ◌<◌, ◌≤◌, List, [], ◌∷◌, ◌++◌, map, length, take, drop, refl, sym, ap, subst, ◌∙◌, append_assoc, arith, inl, inr}
 use Rattle.std.proofs.Math.Nat.{pow-suc}
+use Rattle.std.proofs.lemmas.Bool.{cases_lt}
 use Rattle.std.proofs.lemmas.List.{take_at, drop_at, drop-drop}
 use Rattle.std.proofs.lemmas.List.Concat.{flat_map-append}
 use Rattle.std.proofs.lemmas.List.Sums.{fold-append}
@@ -19,7 +20,7 @@ use Rattle.xs_grammar.specs.Packet.{packet_fields}
 use Rattle.xs_grammar.specs.Precinct.{Content, precinct_fields, IsPrecinct}
 use Rattle.xs_grammar.specs.Laws.{SameBandLine}
 use Rattle.xs_grammar.proofs.Coded.{widths, length-widths}
-use Rattle.xs_decoding.specs.Built.{IsBuiltPacket, IsBuiltPrecinct, HasMode, HasRawCounts, precinct_head_size, stated_size, q_at, r_at, body_at}
+use Rattle.xs_decoding.specs.Built.{IsBuiltPacket, IsBuiltPrecinct, IsUnbuilt, HasMode, HasRawCounts, precinct_head_size, stated_size, q_at, r_at, body_at}
 use Rattle.xs_decoding.specs.Laws.{BuiltIsBuilt}
 use Rattle.xs_decoding.proofs.Packets.{IsHere, places_here, packet_one}
 
@@ -191,3 +192,58 @@ built_is_built h content precinct packet part more accepted plain apart p u = at
     at : ((packet ≡ 0) × HasMode h (part ++ more)) ⊎ HasRawCounts h precinct (part ++ more) packet → ⊥
     at (inl c) = no_mode h content precinct part more p c.1
     at (inr c) = no_raw h content precinct packet part more (omega (arith, accepted.nly)) p c
+
+-- ---- no two packets of a precinct are of such a form
+
+-- the packets before one, and those of another content before a later one
+cut_before : {A : Type 0} (xs ys : List A) (x y : A) (more others : List A) → xs ++ (x ∷ more) ≡ ys ++ (y ∷ others) → length xs < length ys → (between : List A) × (ys ≡ xs ++ (x ∷ between))
+cut_before [] [] x y more others e less = absurd (omega (arith, less))
+cut_before [] (z ∷ ys) x y more others e less = (ys, ap (λ k. k ∷ ys) (sym (same_head x z more (ys ++ (y ∷ others)) e).0))
+cut_before (w ∷ xs) [] x y more others e less = absurd (omega (arith, less))
+cut_before (w ∷ xs) (z ∷ ys) x y more others e less =
+    let parts = same_head w z (xs ++ (x ∷ more)) (ys ++ (y ∷ others)) e in
+    let rest = cut_before xs ys x y more others parts.1 (omega (arith, less)) in
+    (rest.0, ap (λ k. k ∷ ys) (sym parts.0) ∙ ap (λ l. w ∷ l) rest.1)
+
+no_later_raw : (h : Header) (precinct packet other : ℕ) (bytes : List ℕ) → h.nly ≤ h.nlx → HasRawCounts h precinct bytes packet → HasRawCounts h precinct bytes other → packet < other → ⊥
+no_later_raw h precinct packet other bytes below c d less =
+    let bit : (0 ∷ []) ≡ (1 ∷ []) = sym (built_first_bit h d.content c.place packets.4.0 (packets.4.1 ++ d.rest) packets.4.3) ∙ ap (λ l. take 1 (bits_of_bytes l)) (sym (append_assoc packets.4.0 packets.4.1 d.rest)
+    ∙ ap (λ l. l ++ d.rest) (sym packets.4.2) ∙ rest) ∙ c.raw in
+    let same : 0 ≡ 1 = (same_head {A = ℕ} 0 1 [] [] bit).0 in
+    absurd (omega (arith, same))
+  where
+    cut : (between : List PacketPlace) × (d.earlier ≡ c.earlier ++ (c.place ∷ between))
+    cut = cut_before c.earlier d.earlier c.place d.place c.later d.later (sym c.order ∙ d.order) (omega (arith, c.number, d.number, less))
+
+    packets : (a : List ℕ) × (b : List ℕ) × (d.before ≡ a ++ b) × SpellsEach (IsBuiltPacket h d.content) c.earlier a × SpellsEach (IsBuiltPacket h d.content) (c.place ∷ cut.0) b
+    packets = each-split (IsBuiltPacket h d.content) c.earlier (c.place ∷ cut.0) d.before (subst (λ l. SpellsEach (IsBuiltPacket h d.content) l d.before) cut.1 d.spelled)
+
+    joined : packets.0 ++ (packets.1 ++ d.rest) ≡ c.before ++ c.rest
+    joined = sym (append_assoc packets.0 packets.1 d.rest) ∙ ap (λ l. l ++ d.rest) (sym packets.2) ∙ sym d.joined ∙ c.joined
+
+    places : AllByRecursion (IsHere h precinct) c.earlier
+    places = all-front (IsHere h precinct) c.earlier (c.place ∷ c.later) (subst (AllByRecursion (IsHere h precinct)) c.order (places_here h precinct below))
+
+    Same : PacketPlace → Type 0
+    Same place = AllByRecursion (λ band. SameBandLine h d.content c.content band place.line) (packet_bands h place)
+
+    rest : packets.1 ++ d.rest ≡ c.rest
+    rest = (each-agree (IsBuiltPacket h d.content) (IsBuiltPacket h c.content) Same c.earlier
+        (all-each (IsHere h precinct) _ c.earlier (λ place at. packet_one h d.content c.content precinct place (d.q ∙ sym c.q) (d.r ∙ sym c.r) at) places)
+        packets.0 c.before (packets.1 ++ d.rest) c.rest packets.3 c.spelled joined).0
+
+one_raw : (h : Header) (precinct packet other : ℕ) (bytes : List ℕ) → h.nly ≤ h.nlx → HasRawCounts h precinct bytes packet → HasRawCounts h precinct bytes other → packet ≡ other
+one_raw h precinct packet other bytes below c d =
+    elim (cases_lt packet other) [
+      | inl less ↦ absurd (no_later_raw h precinct packet other bytes below c d less)
+      | inr past ↦ elim (cases_lt other packet) [ inl more ↦ absurd (no_later_raw h precinct other packet bytes below d c more) | inr same ↦ omega (arith, past, same) ]
+    ]
+
+pub one_unbuilt : (h : Header) (precinct packet other : ℕ) (bytes : List ℕ) → h.nly ≤ h.nlx → IsUnbuilt h precinct bytes packet → IsUnbuilt h precinct bytes other → packet ≡ other
+one_unbuilt h precinct packet other bytes below u v = at u.cause v.cause
+  where
+    at : ((packet ≡ 0) × HasMode h bytes) ⊎ HasRawCounts h precinct bytes packet → ((other ≡ 0) × HasMode h bytes) ⊎ HasRawCounts h precinct bytes other → packet ≡ other
+    at (inl c) (inl d) = c.0 ∙ sym d.0
+    at (inl c) (inr d) = absurd (c.1.2 (d.modes c.1.0 c.1.1))
+    at (inr c) (inl d) = absurd (d.1.2 (c.modes d.1.0 d.1.1))
+    at (inr c) (inr d) = one_raw h precinct packet other bytes below c d

@@ -18,6 +18,8 @@ pub mod Turned
 pub mod Decoded
 pub mod SlicesRead
 pub mod StreamsRead
+pub mod Results
 pub mod Unbuilt
+pub mod UnbuiltAt
 pub mod ReadAgain
 pub mod OnePicture

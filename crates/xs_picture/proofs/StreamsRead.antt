@@ -36,7 +36,7 @@ use Rattle.xs_picture.proofs.Coverage.{slice_there}
 dropped : (n : ℕ) (bytes : List ℕ) → n ≤ length bytes → n + length (drop n bytes) ≡ length bytes
 dropped n bytes enough = omega (arith, enough, length-drop n bytes)
 
-all_slices : (h : Header) (content : Content) (xs : List ℕ) → AllByRecursion (λ x. (l : List ℕ) → IsBuiltSlice h content x l → IsSlice h content x l) xs
+pub all_slices : (h : Header) (content : Content) (xs : List ℕ) → AllByRecursion (λ x. (l : List ℕ) → IsBuiltSlice h content x l → IsSlice h content x l) xs
 all_slices h content [] = tt
 all_slices h content (x ∷ xs) = (λ l built. built.spelled, all_slices h content xs)
 
@@ -116,7 +116,7 @@ slices_some h accepted =
     ceil_some (precinct_count h) h.hsl (ceil_some h.shape.height (2 ^ h.nly) height (pow_pos h.nly)) accepted.hsl
 
 -- slices begin with a slice's marker
-slices_begin : (h : Header) (content : Content) (n : ℕ) (slices rest : List ℕ) → 0 < n → SpellsEach (IsSlice h content) (upto n) slices → BeginsWith (slices ++ rest) slh
+pub slices_begin : (h : Header) (content : Content) (n : ℕ) (slices rest : List ℕ) → 0 < n → SpellsEach (IsSlice h content) (upto n) slices → BeginsWith (slices ++ rest) slh
 slices_begin h content zero slices rest some p = absurd (omega (arith, some))
 slices_begin h content (suc n) slices rest some p =
     (0 ∷ 4 ∷ 0 ∷ 0 ∷ p.3.body ++ (p.1 ++ rest), ap (λ l. l ++ rest) (p.2 ∙ ap (λ l. l ++ p.1) p.3.joined) ∙ append_assoc (slice_head 0 ++ p.3.body) p.1 rest ∙ append_assoc (slice_head 0) p.3.body (p.1 ++ rest))
@@ -200,7 +200,7 @@ tail_of h other content bytes start n head front = record {
 
 -- Its first slices end where those end that were read
 
-slices_agree : (h : Header) (content other : Content) (count : ℕ) (a b y z : List ℕ) → h.nly ≤ h.nlx → SpellsEach (IsBuiltSlice h content) (upto count) a → SpellsEach (IsBuiltSlice h other) (upto count) b → a ++ y ≡ b ++ z → y ≡ z
+pub slices_agree : (h : Header) (content other : Content) (count : ℕ) (a b y z : List ℕ) → h.nly ≤ h.nlx → SpellsEach (IsBuiltSlice h content) (upto count) a → SpellsEach (IsBuiltSlice h other) (upto count) b → a ++ y ≡ b ++ z → y ≡ z
 slices_agree h content other count a b y z below p q e =
     (each-agree (IsBuiltSlice h content) (IsBuiltSlice h other) (λ _. ⊤) (upto count)
     (range-all (λ slice. (a b y z : List ℕ) → IsBuiltSlice h content slice a → IsBuiltSlice h other slice b → a ++ y ≡ b ++ z → (y ≡ z) × ⊤) 0 count
@@ -217,7 +217,7 @@ range_split first (suc n) m =
     ap (range_with_len first) a ∙ ap (λ l. first ∷ l) (range_split (first + 1) n m ∙ ap (λ k. range_with_len (first + 1) n ++ range_with_len k m) b)
 
 -- the slices before one, it and those after it
-slices_cut : (slice count : ℕ) → slice < count → upto count ≡ upto slice ++ (slice ∷ range_with_len (slice + 1) (count - (slice + 1)))
+pub slices_cut : (slice count : ℕ) → slice < count → upto count ≡ upto slice ++ (slice ∷ range_with_len (slice + 1) (count - (slice + 1)))
 slices_cut slice count there =
     let whole : count ≡ slice + suc (count - (slice + 1)) = omega (arith, there) in
     let here : 0 + slice ≡ slice = omega arith in

@@ -30,7 +30,7 @@ all_front P [] ys h = tt
 all_front P (x ∷ xs) ys h = (h.0, all_front P xs ys h.1)
 
 -- a slice is not read where a precinct is of another form
-no_built_slice : (h : Header) (content : Content) (slice precinct packet : ℕ) (rest part more : List ℕ) → IsAccepted h → HasBuiltValues h → IsUnbuiltIn h slice rest precinct packet → rest ≡ part ++ more
+pub no_built_slice : (h : Header) (content : Content) (slice precinct packet : ℕ) (rest part more : List ℕ) → IsAccepted h → HasBuiltValues h → IsUnbuiltIn h slice rest precinct packet → rest ≡ part ++ more
     → IsBuiltSlice h content slice part → ⊥
 no_built_slice h content slice precinct packet rest part more accepted values u e built =
     built_is_built h content precinct packet b.0 (b.1 ++ more) accepted values.runs values.signs b.3 (subst (λ l. IsUnbuilt h precinct l packet) tail u.unbuilt)

@@ -1,9 +1,9 @@
 //! The picture of a codestream.
-ghost use Rattle.std.specs.Prelude.{◌≡◌, ◌<◌, ◌^◌, true, false, length, IfOk, IfErr, OnOk};
+ghost use Rattle.std.specs.Prelude.{◌≡◌, ◌⊎◌, ℕ, ◌<◌, ◌^◌, true, false, length, IfOk, IfErr, OnOk, Err};
 ghost use Rattle.xs_params.specs.declared.header.Header.{Header};
 ghost use Rattle.xs_faults.specs.Names.{NamesStreamFault};
 ghost use Rattle.xs_grammar.specs.Precinct.{Content};
-ghost use Rattle.xs_decoding.specs.Built.{IsBuiltFront};
+ghost use Rattle.xs_decoding.specs.Built.{IsBuiltFront, IsUnbuiltAt};
 ghost use Rattle.xs_decoding.specs.Decoded.{IsDecodingOf, IsPictureOf};
 ghost use Rattle.xs_picture.specs.Coefs.{AreCoefs, rows_of_slices};
 ghost use Rattle.xs_picture.specs.Decoding.{AreDecoded};
@@ -15,7 +15,7 @@ use crate::colours::turn_planes;
 use crate::reader::read_stream;
 use crate::samples::put_plane;
 use std::alloc::Global;
-use xs_faults::StreamFault;
+use xs_faults::{PrecinctFault, SliceFault, StreamFault};
 use xs_io::Memory;
 use xs_params::Planes;
 
@@ -25,6 +25,7 @@ pub fn decode_picture(alloc: Global, bytes: &[u8]) -> Result<(Planes, usize), St
     ensures decoded { IfOk result (λ decoded. (h : Header) × (content : Content) × IsBuiltFront h content bytes.now decoded.1 × IsDecodingOf h content decoded.0) }
     ensures refused { IfErr result (IsStreamRefusal bytes.now) }
     ensures named { IfErr result NamesStreamFault }
+    ensures unbuilt { (slice precinct packet : ℕ) → IsUnbuiltAt bytes.now slice precinct packet → (result ≡ Err (StreamFault.Slice slice (SliceFault.Precinct precinct (PrecinctFault.Unbuilt packet)))) ⊎ (result ≡ Err StreamFault.Memory) }
 {
     let (coefs, size) = read_stream(alloc, bytes)?;
     match decode_coefs(alloc, &coefs) {

@@ -1,10 +1,10 @@
 //! The coefficients of codestreams.
-ghost use Rattle.std.specs.Prelude.{◌≡◌, ◌≢◌, ◌≤◌, ◌<◌, ◌^◌, ◌++◌, length, drop, IfOk, IfErr};
+ghost use Rattle.std.specs.Prelude.{◌≡◌, ◌≢◌, ◌⊎◌, ℕ, ◌≤◌, ◌<◌, ◌^◌, ◌++◌, length, drop, IfOk, IfErr, Err};
 ghost use Rattle.xs_lists.specs.Spelling.{BeginsWith};
 ghost use Rattle.xs_faults.specs.Names.{NamesSliceFault, NamesStreamFault};
 ghost use Rattle.xs_grammar.specs.Geometry.{slice_count};
 ghost use Rattle.xs_grammar.specs.Slice.{eoc};
-ghost use Rattle.xs_decoding.specs.Built.{HasNoBuiltFront};
+ghost use Rattle.xs_decoding.specs.Built.{HasNoBuiltFront, IsUnbuiltAt};
 ghost use Rattle.xs_picture.specs.Reading.{IsStreamRefusal};
 ghost use Rattle.xs_picture.specs.StreamRead.{IsHeaderRead, AreSlicesRead, IsStreamRead};
 
@@ -33,6 +33,7 @@ fn told_head(bytes: &[u8], fault: HeadFault) -> StreamFault
     requires none { fault ≢ HeadFault.Memory → HasNoBuiltFront bytes.now }
     ensures refused { IsStreamRefusal bytes.now result }
     ensures named { NamesStreamFault result }
+    ensures memory { fault ≡ HeadFault.Memory → result ≡ StreamFault.Memory }
 {
     match fault {
         HeadFault::Truncated { .. } => cut(bytes),
@@ -48,6 +49,8 @@ fn told_slice(bytes: &[u8], slice: u32, fault: SliceFault) -> StreamFault
     requires refused { fault ≢ SliceFault.Memory → IsStreamRefusal bytes.now (StreamFault.Slice slice fault) }
     ensures refused { IsStreamRefusal bytes.now result }
     ensures named { NamesStreamFault result }
+    ensures memory { fault ≡ SliceFault.Memory → result ≡ StreamFault.Memory }
+    ensures unbuilt { (precinct packet : ℕ) → fault ≡ SliceFault.Precinct precinct (PrecinctFault.Unbuilt packet) → result ≡ StreamFault.Slice slice fault }
 {
     match fault {
         SliceFault::Short => cut(bytes),
@@ -66,6 +69,7 @@ fn read_start(alloc: Global, bytes: &[u8]) -> Result<(Header, usize), StreamFaul
     ensures read { IfOk result (λ read. IsHeaderRead read.0 bytes.now read.1) }
     ensures refused { IfErr result (IsStreamRefusal bytes.now) }
     ensures named { IfErr result NamesStreamFault }
+    ensures unbuilt { (slice precinct packet : ℕ) → IsUnbuiltAt bytes.now slice precinct packet → IfErr result (λ fault. fault ≡ StreamFault.Memory) }
 {
     match read_header(alloc, bytes) {
         Ok(read) => Ok(read),
@@ -87,6 +91,7 @@ fn read_slices(
     ensures read { IfOk result (λ read. AreSlicesRead header (slice_count header) read.0.slices (drop start bytes.now) (drop read.1 bytes.now)) }
     ensures refused { IfErr result (IsStreamRefusal bytes.now) }
     ensures named { IfErr result NamesStreamFault }
+    ensures unbuilt { (slice precinct packet : ℕ) → IsUnbuiltAt bytes.now slice precinct packet → (result ≡ Err (StreamFault.Slice slice (SliceFault.Precinct precinct (PrecinctFault.Unbuilt packet)))) ⊎ (result ≡ Err StreamFault.Memory) }
 {
     let count = Geometry::of(&header).slices();
     let mut coefs = StreamCoefs::new(alloc, header);
@@ -134,6 +139,7 @@ pub fn read_stream(alloc: Global, bytes: &[u8]) -> Result<(StreamCoefs, usize), 
     ensures read { IfOk result (λ read. IsStreamRead read.0 bytes.now read.1) }
     ensures refused { IfErr result (IsStreamRefusal bytes.now) }
     ensures named { IfErr result NamesStreamFault }
+    ensures unbuilt { (slice precinct packet : ℕ) → IsUnbuiltAt bytes.now slice precinct packet → (result ≡ Err (StreamFault.Slice slice (SliceFault.Precinct precinct (PrecinctFault.Unbuilt packet)))) ⊎ (result ≡ Err StreamFault.Memory) }
 {
     let (header, start) = read_start(alloc, bytes)?;
     let (coefs, place) = read_slices(alloc, header, bytes, start)?;

@@ -1,5 +1,6 @@
 -- A packet at its place: the buffers of its bands, and its rows.
-use Rattle.std.proofs.Common.{◌≡◌, ◌≢◌, add-mul, ℕ, zero, suc, ◌+◌, ◌*◌, ◌-◌, ◌<◌, ◌≤◌, List, [], ◌∷◌, ◌++◌, map, take, drop, length, get_or, refl, sym, ap, subst, ◌∙◌, arith, length-take-le, length-drop}
+use Rattle.std.proofs.Common.{◌≡◌, ◌≢◌, ℕ, zero, suc, ◌+◌, ◌*◌, ◌-◌, ◌<◌, ◌≤◌, List, [], ◌∷◌, ◌++◌, map, take, drop, length, get_or, refl, sym, ap, subst, ◌∙◌, arith, length-take-le, length-drop}
+use Rattle.std.proofs.lemmas.List.FromFn.{length-range_with_len}
 use Rattle.std.proofs.lemmas.List.{map-append, length-map, drop-map, take-map, get_or-drop, get_or-take}
 use Rattle.std.specs.List.{range_with_len, Contains}
 use borrow.Rule.Slice.PartMut.{mid_of, post_of, put_mid, put_same}
@@ -26,9 +27,6 @@ part_kept f a n xs ys e =
 
 pub map_part : {A B : Type 0} (f : A → B) (a n : ℕ) (xs : List A) → map f (take n (drop a xs)) ≡ take n (drop a (map f xs))
 map_part f a n xs = sym (ap (take n) (drop-map f a xs) ∙ take-map f n (drop a xs))
-
-pub same_part : {A : Type 0} (a n m : ℕ) (xs : List A) → n ≡ m → take (a + n - a) (drop a xs) ≡ take m (drop a xs)
-same_part a n m xs e = let f : a + n - a ≡ n = omega arith in ap (λ k. take k (drop a xs)) (f ∙ e)
 
 pub part_length : {A B : Type 0} (f : A → B) (a n : ℕ) (xs ys : List A) → a + n ≤ length xs → map f ys ≡ map f (take n (drop a xs)) → length ys ≡ n
 part_length f a n xs ys inside e =
@@ -102,36 +100,45 @@ rows_held kind rows line a (suc n) (b ∷ bs) (l ∷ ls) size p rowed =
 
 -- The buffers of a packet's bands
 
+-- the range of a packet's bands cuts out of a list what the packet has of it
+pub same_window : {A : Type 0} (a n b m : ℕ) (xs : List A) → range_with_len a n ≡ range_with_len b m → take n (drop a xs) ≡ take m (drop b xs)
+same_window a zero b zero xs e = refl
+same_window a zero b (suc m) xs e = absurd (omega (arith, ap length e))
+same_window a (suc n) b zero xs e = absurd (omega (arith, ap length e))
+same_window a (suc n) b (suc m) xs e =
+    let first : a ≡ b = cc e in
+    let size : suc n ≡ suc m = omega (arith, ap length e, length-range_with_len a (suc n), length-range_with_len b (suc m)) in
+    ap (λ k. take k (drop a xs)) size ∙ ap (λ k. take (suc m) (drop k xs)) first
+
 -- the buffers of a packet, which begin with a band's number, after its lines were read: the same is known of them
 pub record IsPart (h : Header) (place : PacketPlace) (a : ℕ) (bands new : List Buffered) : Type 0 where
-  pub first : a ≡ place.first_type * components_of h.shape.format
+  pub range : range_with_len a (place.types * components_of h.shape.format) ≡ packet_bands h place
   pub known : map known_of new ≡ map known_of (take (place.types * components_of h.shape.format) (drop a bands))
   pub size : length new ≡ place.types * components_of h.shape.format
 
-pub is_part : (h : Header) (place : PacketPlace) (m : ℕ) (bands new : List Buffered) → m ≡ components_of h.shape.format → (place.first_type + place.types) * components_of h.shape.format ≤ bands_of h
-    → length bands ≡ bands_of h → map known_of new ≡ map known_of (take (place.first_type * m + place.types * m - place.first_type * m) (drop (place.first_type * m) bands))
-    → IsPart h place (place.first_type * m) bands new
-is_part h place m bands new e there count known =
-    record { first = first; known = same; size = part_length known_of (place.first_type * m) n bands new inside same }
+pub is_part : (h : Header) (place : PacketPlace) (a b : ℕ) (bands new : List Buffered) → packet_bands h place ≡ range_with_len a (b - a) → a ≤ b → b ≤ bands_of h → length bands ≡ bands_of h
+    → map known_of new ≡ map known_of (take (b - a) (drop a bands)) → IsPart h place a bands new
+is_part h place a b bands new range order there count known =
+    record { range = ap (range_with_len a) (sym size) ∙ sym range; known = same; size = part_length known_of a n bands new inside same }
   where
     n : ℕ
     n = place.types * components_of h.shape.format
 
-    first : place.first_type * m ≡ place.first_type * components_of h.shape.format
-    first = ap (λ k. place.first_type * k) e
+    size : b - a ≡ n
+    size = sym (length-range_with_len a (b - a)) ∙ ap length (sym range) ∙ length-range_with_len (place.first_type * components_of h.shape.format) n
 
-    same : map known_of new ≡ map known_of (take n (drop (place.first_type * m) bands))
-    same = known ∙ ap (map known_of) (same_part (place.first_type * m) (place.types * m) n bands (ap (λ k. place.types * k) e))
+    same : map known_of new ≡ map known_of (take n (drop a bands))
+    same = known ∙ ap (λ k. map known_of (take k (drop a bands))) size
 
-    inside : place.first_type * m + n ≤ length bands
-    inside = omega (arith, first, add-mul place.first_type place.types (components_of h.shape.format), there, count)
+    inside : a + n ≤ length bands
+    inside = omega (arith, sym size, order, there, count)
 
 pub band_in : (h : Header) (place : PacketPlace) (a : ℕ) (bands new : List Buffered) (k : ℕ) → IsPart h place a bands new → k < length new → Contains (packet_bands h place) (a + k)
 band_in h place a bands new k part inside =
     let n = place.types * components_of h.shape.format in
     let below : a + k < a + n = omega (arith, inside, part.size) in
     let low : a ≤ a + k = omega arith in
-    subst (λ b. Contains (range_with_len b n) (a + k)) part.first (in_range a n (a + k) low below)
+    subst (λ l. Contains l (a + k)) part.range (in_range a n (a + k) low below)
 
 pub wide_enough : (h : Header) (kind : Quant) (place : PacketPlace) (a : ℕ) (bands new : List Buffered) (lines : List ReadLine) (rows : List BandLines) (k : ℕ) → IsPart h place a bands new → HoldLines kind new lines
     → ((band : ℕ) → Contains (packet_bands h place) band → length (row_at rows band place.line) ≤ 4 * (get_or bands band no_band).groups)
@@ -151,9 +158,9 @@ pub packet_put : (h : Header) (place : PacketPlace) (a : ℕ) (bands new : List 
     → IsPacketPut h place (part_of h place (map known_of bands)) old rows bytes size
 packet_put h place a bands new old rows bytes size part read wide here elsewhere = record {
   lines = read.lines;
-  known_lines = held_known h.quant new read.lines read.held ∙ part.known ∙ ap (λ b. map known_of (take n (drop b bands))) part.first
+  known_lines = held_known h.quant new read.lines read.held ∙ part.known ∙ ap (map known_of) (same_window a n (place.first_type * components_of h.shape.format) n bands part.range)
       ∙ map_part known_of (place.first_type * components_of h.shape.format) n bands;
-  held = subst (λ b. HoldRows h.quant rows place.line (range_with_len b n) read.lines) part.first
+  held = subst (λ l. HoldRows h.quant rows place.line l read.lines) part.range
       (rows_held h.quant rows place.line a n new read.lines part.size read.held
       (λ k inside. (length (row_at old (a + k) place.line), wide_enough h h.quant place a bands new read.lines old k part read.held wide inside, here k inside)));
   enough = read.enough;

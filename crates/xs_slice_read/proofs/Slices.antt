@@ -212,7 +212,7 @@ range_split first (suc n) m =
     ap (range_with_len first) a ∙ ap (λ l. first ∷ l) (range_split (first + 1) n m ∙ ap (λ k. range_with_len (first + 1) n ++ range_with_len k m) b)
 
 -- the precincts before one, it and those after it
-split_at : (first precinct end : ℕ) → first ≤ precinct → precinct < end → range_with_len first (end - first) ≡ range_with_len first (precinct - first) ++ (precinct ∷ range_with_len (precinct + 1) (end - (precinct + 1)))
+pub split_at : (first precinct end : ℕ) → first ≤ precinct → precinct < end → range_with_len first (end - first) ≡ range_with_len first (precinct - first) ++ (precinct ∷ range_with_len (precinct + 1) (end - (precinct + 1)))
 split_at first precinct end low high =
     let whole : end - first ≡ precinct - first + suc (end - (precinct + 1)) = omega (arith, low, high) in
     let here : first + (precinct - first) ≡ precinct = omega (arith, low) in

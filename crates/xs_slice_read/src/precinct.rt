@@ -11,7 +11,6 @@ ghost use Rattle.xs_grammar.specs.Header.{IsAccepted};
 ghost use Rattle.xs_geometry.specs.Kept.{geometry_of};
 ghost use Rattle.xs_geometry.specs.Places.{HasBands, place_of};
 ghost use Rattle.xs_geometry.specs.SliceLines.{AreLinesOf, HasLine, row_at};
-ghost use Rattle.xs_layout.specs.Geometry.{components_of};
 ghost use Rattle.xs_decoding.specs.Built.{HasBuiltValues, IsUnbuilt, stated_size};
 ghost use Rattle.xs_slice_read.specs.Packet.{known_of, HasRawHead, IsPacketRefusal};
 ghost use Rattle.xs_slice_read.specs.Precinct.{ArePacketsRead, ArePacketsRefused, HasModeAmong, HasRawAfter, IsPacketPut, IsPrecinctRead, IsPrecinctRefusal, band_groups, known_bands, no_band, part_of, plain_fields};
@@ -20,7 +19,7 @@ use crate::packet::{next, read_packet};
 use xs_bits::BitReader;
 use xs_faults::PrecinctFault;
 use xs_geometry::{Geometry, PacketPlace, SliceRows, truncation};
-use xs_params::{Format, Header};
+use xs_params::Header;
 use xs_read_lines::BandLine;
 
 /// What the header of a precinct says: the bytes after it, quantisation and refinement, and whether each band has mode 0.
@@ -152,7 +151,7 @@ fn read_packets(
     let mut at = 0;
     'packets: for number in 0..geometry.packets(precinct) {
         let place = geometry.packet(precinct, number);
-        match read_place(header, place, number, &body[at..], bands, rows) {
+        match read_place(header, geometry, place, number, &body[at..], bands, rows) {
             Ok(size) => at += size,
             Err(fault) => return Err(fault),
         }
@@ -163,6 +162,7 @@ fn read_packets(
 // Reads the packet with this number at its place, and puts its lines into the rows. The answer is the number of its bytes.
 fn read_place(
     header: &Header,
+    geometry: &Geometry,
     place: PacketPlace,
     number: u32,
     bytes: &[u8],
@@ -170,6 +170,7 @@ fn read_place(
     rows: &mut SliceRows,
 ) -> Result<usize, PrecinctFault>
     requires few { length bytes.now < 2 ^ 24 }
+    requires geometry { geometry.now ≡ geometry_of header.now }
     requires count { length bands.old ≡ bands_of header.now }
     requires most { bands_of header.now ≤ 64 }
     requires there { HasBands header.now place }
@@ -182,9 +183,7 @@ fn read_place(
     ensures refused { IfErr result (IsPacketRefusal header.now.long_heads number (part_of header.now (place_of place) (map known_of bands.old)) bytes.now) }
     ensures raw { HasRawHead header.now.long_heads bytes.now → result ≡ Err (PrecinctFault.Unbuilt number) }
 {
-    let count = components(header.shape.format);
-    let first = place.first_type * count;
-    let end = first + place.types * count;
+    let (first, end) = geometry.packet_bands(place);
     let packet = &mut bands[first as usize..end as usize];
     match read_packet(header.quant, header.long_heads, number, bytes, packet) {
         Ok(size) => {
@@ -209,17 +208,6 @@ fn put_lines(rows: &mut SliceRows, line: u32, first: u32, bands: &[BandLine])
         let band = first + k as u32;
         let width = rows.row(band, line).len();
         rows.put_row(band, line, &bands[k].values()[..width]);
-    }
-}
-
-// The number of components.
-fn components(format: Format) -> u32
-    ensures count { result ≡ components_of format }
-    ensures few { result ≤ 3 }
-{
-    match format {
-        Format::Mono => 1,
-        Format::C422 | Format::C444 => 3,
     }
 }
 

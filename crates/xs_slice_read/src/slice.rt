@@ -1,12 +1,12 @@
 //! A slice: its header, and its precincts.
-ghost use Rattle.std.specs.Prelude.{◌≡◌, ◌≢◌, ◌<◌, ◌≤◌, ◌^◌, ◌∷◌, ◌++◌, [], true, false, length, map, take, IfOk, IfErr, OnOk};
+ghost use Rattle.std.specs.Prelude.{◌≡◌, ◌≢◌, ◌⊎◌, ℕ, ◌<◌, ◌≤◌, ◌^◌, ◌∷◌, ◌++◌, [], true, false, length, map, take, IfOk, IfErr, OnOk, Err};
 ghost use Rattle.xs_params.specs.declared.header.Header.{Header};
 ghost use Rattle.xs_grammar.specs.Geometry.{slice_count};
 ghost use Rattle.xs_grammar.specs.Header.{IsAccepted};
 ghost use Rattle.xs_grammar.specs.Slice.{slice_head};
 ghost use Rattle.xs_decoding.specs.Built.{HasBuiltValues};
 ghost use Rattle.xs_slice_read.specs.Precinct.{band_groups};
-ghost use Rattle.xs_slice_read.specs.Slice.{IsSliceRead, IsSliceRefusal, slice_fault_of};
+ghost use Rattle.xs_slice_read.specs.Slice.{IsSliceRead, IsSliceRefusal, IsUnbuiltIn, slice_fault_of};
 
 use crate::precinct::read_precinct;
 use std::alloc::Global;
@@ -33,6 +33,7 @@ pub fn read_front(
     requires there { slice < slice_count header.now }
     ensures read { IfOk result (λ read. IsSliceRead header.now slice read.0 bytes.now read.1) }
     ensures refused { IfErr result (IsSliceRefusal header.now slice bytes.now) }
+    ensures unbuilt { (precinct packet : ℕ) → IsUnbuiltIn header.now slice bytes.now precinct packet → (result ≡ Err (SliceFault.Precinct precinct (PrecinctFault.Unbuilt packet))) ⊎ (result ≡ Err SliceFault.Memory) }
 {
     if bytes.len() < HEAD {
         return Err(SliceFault::Short);

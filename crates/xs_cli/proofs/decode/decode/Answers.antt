@@ -1,6 +1,9 @@
+use Rattle.std.proofs.Common.{subst}
 use Rattle.std.specs.Prelude.{IsErrOf}
 use Rattle.xs_io.specs.declared.traits.TakeFault.TheVariants as take_fault
-use Rattle.xs_cli.proofs.Decodings.{failed, limited, starved}
+use Rattle.xs_cli.specs.Decoding.{IsDecoded}
+use Rattle.xs_cli.specs.Steps.{IsUnlessMemory}
+use Rattle.xs_cli.proofs.Decodings.{decoded_as_far, failed, limited, starved}
 use Rattle.xs_cli.proofs.decode.decode.Goals as goal
 
 pub returns-in-Err-Limit : goal.returns-in-Err-Limit
@@ -20,3 +23,8 @@ returns-in-Err-Memory g c =
     let wanting : IsErrOf c.take_all.result take_fault.Memory = cc in
     let front = c.take_all.ensures.memory wanting in
     starved _ _ _ _ front.0 front.1 front.2
+
+pub returns-in-Ok : goal.returns-in-Ok
+returns-in-Ok g c =
+    let given = subst (λ l. IsUnlessMemory (IsDecoded l) c.picture.result) c.as_slice.ensures.items c.picture.ensures in
+    decoded_as_far _ _ _ _ c.in-Ok.bytes c.picture.result c.as_slice.ensures.bytes c.in-Ok.ensures.most c.in-Ok.ensures.taken c.in-Ok.ensures.end given

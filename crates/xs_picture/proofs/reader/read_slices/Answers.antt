@@ -1,12 +1,18 @@
-use Rattle.std.proofs.Common.{◌≡◌, ◌+◌, ◌-◌, ◌<◌, [], ◌∷◌, ◌++◌, take, drop, length, sym, ap, subst, ◌∙◌, arith}
+use Rattle.std.proofs.Common.{◌≡◌, inl, inr, ◌+◌, ◌-◌, ◌<◌, [], ◌∷◌, ◌++◌, take, drop, length, sym, ap, subst, ◌∙◌, arith}
+use Rattle.std.specs.Prelude.{Err}
 use Rattle.std.proofs.lemmas.List.{take_rest, drop-drop, length-drop}
 use Rattle.xs_grammar.specs.Geometry.{slice_count}
 use Rattle.xs_grammar.specs.Header.{IsAccepted}
 use Rattle.xs_decoding.specs.Built.{HasBuiltValues}
-use Rattle.xs_slice_read.specs.Slice.{IsSliceRead, IsSliceRefusal}
+use Rattle.xs_faults.specs.declared.PrecinctFault.TheVariants as precinct_fault
+use Rattle.xs_faults.specs.declared.SliceFault.TheVariants as slice_fault
+use Rattle.xs_faults.specs.declared.StreamFault.TheVariants as stream_fault
+use Rattle.xs_slice_read.specs.Slice.{IsSliceRead, IsSliceRefusal, IsUnbuiltIn}
 use Rattle.xs_picture.specs.StreamRead.{AreSlicesRead}
+use Rattle.xs_picture.proofs.Results.{err_one}
 use Rattle.xs_picture.proofs.SlicesRead.{none_read, more_read}
 use Rattle.xs_picture.proofs.Unbuilt.{slice_refused}
+use Rattle.xs_picture.proofs.UnbuiltAt.{refused_unbuilt, unread}
 use Rattle.xs_picture.proofs.reader.read_slices.Goals as goal
 
 pub slices-init : goal.slices-init
@@ -39,6 +45,25 @@ told_slice-requires-clause-refused c = λ named.
     (subst (λ x. IsSliceRefusal x slice (take (length bytes - place) (drop place bytes)) fault) (c.header.ensures ∙ c.slices.invariant.header) c.in-Err.ensures.refused) in
     slice_refused h bytes (drop place bytes) c.args.start slice c.slices.coefs.slices fault c.requires.headed (subst (λ n. slice < n) counted c.slices-test.true) c.slices.invariant.read none named
 
+pub returns-in-Err-clause-unbuilt : goal.returns-in-Err-clause-unbuilt
+returns-in-Err-clause-unbuilt c = λ target precinct packet u.
+    let h = c.args.header in
+    let bytes = c.args.bytes.now in
+    let slice = c.slices.slice in
+    let place = c.slices.place in
+    let rest = drop place bytes in
+    let f = c.in-Err.fault in
+    let same = c.header.ensures ∙ c.slices.invariant.header in
+    let none = subst (λ l. IsSliceRefusal h slice l f) (take_rest bytes place) (subst (λ x. IsSliceRefusal x slice (take (length bytes - place) rest) f) same c.in-Err.ensures.refused) in
+    elim (refused_unbuilt h bytes c.args.start slice target precinct packet c.slices.coefs.slices rest c.requires.headed c.slices.invariant.read u f none
+    (λ other number v. elim (c.in-Err.ensures.unbuilt other number (subst (λ x. IsUnbuiltIn x slice (take (length bytes - place) rest) other number) (sym same) (subst (λ l. IsUnbuiltIn h slice l other number) (sym (take_rest bytes place)) v))) [
+      | inl e ↦ inl (err_one f (slice_fault.Precinct other (precinct_fault.Unbuilt number)) e)
+      | inr e ↦ inr (err_one f slice_fault.Memory e)
+    ])) [
+      | inl named ↦ inl (ap Err (c.told_slice.ensures.unbuilt precinct packet named.1 ∙ ap (stream_fault.Slice slice) named.1 ∙ ap (λ k. stream_fault.Slice k (slice_fault.Precinct precinct (precinct_fault.Unbuilt packet))) named.0))
+      | inr memory ↦ inr (ap Err (c.told_slice.ensures.memory memory))
+    ]
+
 pub slices-preserved : goal.slices-preserved
 slices-preserved c =
     let h = c.args.header in
@@ -70,3 +95,11 @@ returns-clause-read c =
     let counted : c.slices-count.result ≡ slice_count h = c.slices-count.ensures.count ∙ ap slice_count c.of.ensures in
     let end : c.slices.slice ≡ slice_count h = omega (arith, c.slices-test.false, c.slices.auto.slice-end, counted) in
     subst (λ n. AreSlicesRead h n c.slices.coefs.slices (drop c.args.start bytes) (drop c.slices.place bytes)) end c.slices.invariant.read
+
+pub returns-clause-unbuilt : goal.returns-clause-unbuilt
+returns-clause-unbuilt c = λ target precinct packet u.
+    let h = c.args.header in
+    let bytes = c.args.bytes.now in
+    let counted : c.slices-count.result ≡ slice_count h = c.slices-count.ensures.count ∙ ap slice_count c.of.ensures in
+    let end : c.slices.slice ≡ slice_count h = omega (arith, c.slices-test.false, c.slices.auto.slice-end, counted) in
+    absurd (unread h bytes c.args.start c.slices.slice target precinct packet c.slices.coefs.slices (drop c.slices.place bytes) c.requires.headed c.slices.invariant.read u end)

@@ -1,8 +1,10 @@
-use Rattle.std.proofs.Common.{◌≡◌, drop, sym, ap, subst, ◌∙◌, inl, inr}
-use Rattle.std.specs.Prelude.{◌⊎◌}
+use Rattle.std.proofs.Common.{rules, ◌≡◌, drop, sym, ap, subst, ◌∙◌, inl, inr}
+use Rattle.std.specs.Prelude.{◌⊎◌, Err, Some}
+use Rattle.std.specs.Result.{result_err}
 use Rattle.xs_params.specs.declared.header.Header.{Header}
 use Rattle.xs_grammar.specs.Geometry.{slice_count}
 use Rattle.xs_picture.specs.StreamRead.{IsHeaderRead, AreSlicesRead}
+use Rattle.xs_picture.proofs.Results.{is_err, err_one, ok_named}
 use Rattle.xs_picture.proofs.StreamsRead.{stream_read, no_end, no_length}
 use Rattle.xs_picture.proofs.reader.read_stream.Goals.{else-stated-ne0-via-then-stated-ne0+else-stated-end, else-stated-ne0-via-else-stated-ne0}
 use Rattle.xs_picture.proofs.reader.read_stream.Goals as goal
@@ -33,3 +35,25 @@ returns-clause-read c =
     ] in
     stream_read coefs bytes start place end (subst (λ x. IsHeaderRead x bytes start) same c.in_ok-header.ensures.read) c.in_ok-end.ensures.within
     (subst (λ x. AreSlicesRead x (slice_count x) coefs.slices (drop start bytes) (drop place bytes)) same c.in_ok-coefs.ensures.read) c.in_ok-end.ensures.read length
+
+pub returns-in_err-header-clause-unbuilt : goal.returns-in_err-header-clause-unbuilt
+returns-in_err-header-clause-unbuilt c = λ slice precinct packet u.
+    let told : result_err c.from_residual.result ≡ Some c.in_err-header.field-0.0 = search rules in
+    inr (is_err c.from_residual.result c.in_err-header.field-0.0 told ∙ ap Err (c.in_err-header.ensures.unbuilt slice precinct packet u))
+
+pub returns-in_err-coefs-clause-unbuilt : goal.returns-in_err-coefs-clause-unbuilt
+returns-in_err-coefs-clause-unbuilt c = λ slice precinct packet u.
+    let told : result_err c.from_residual-in_err-coefs.result ≡ Some c.in_err-coefs.field-0.0 = search rules in
+    elim (c.in_err-coefs.ensures.unbuilt slice precinct packet u) [
+      | inl e ↦ inl (is_err c.from_residual-in_err-coefs.result c.in_err-coefs.field-0.0 told ∙ ap Err (err_one _ _ e))
+      | inr e ↦ inr (is_err c.from_residual-in_err-coefs.result c.in_err-coefs.field-0.0 told ∙ ap Err (err_one _ _ e))
+    ]
+
+pub returns-in_err-end-clause-unbuilt : goal.returns-in_err-end-clause-unbuilt
+returns-in_err-end-clause-unbuilt c = λ slice precinct packet u. absurd (ok_named _ _ _ (c.in_ok-coefs.ensures.unbuilt slice precinct packet u))
+
+pub returns-then-stated-end-clause-unbuilt : goal.returns-then-stated-end-clause-unbuilt
+returns-then-stated-end-clause-unbuilt c = λ slice precinct packet u. absurd (ok_named _ _ _ (c.in_ok-coefs.ensures.unbuilt slice precinct packet u))
+
+pub returns-clause-unbuilt : goal.returns-clause-unbuilt
+returns-clause-unbuilt c = λ slice precinct packet u. absurd (ok_named _ _ _ (c.in_ok-coefs.ensures.unbuilt slice precinct packet u))

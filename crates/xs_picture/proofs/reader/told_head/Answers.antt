@@ -11,4 +11,8 @@ pub returns-in-Truncated-clause-refused : goal.returns-in-Truncated-clause-refus
 returns-in-Truncated-clause-refused c = subst (IsStreamRefusal c.args.bytes.now) (sym c.cut.ensures) (c.requires.none (other c.args.fault c.in-Truncated.place c.in-Truncated.is), refl)
 
 pub returns-in_default : goal.returns-in_default
-returns-in_default c = record { refused = c.requires.none c.in_default.not-Memory; named = c.in_default.not-Memory }
+returns-in_default c = record {
+  refused = c.requires.none c.in_default.not-Memory;
+  named = c.in_default.not-Memory;
+  memory = λ e. absurd (c.in_default.not-Memory e);
+}
