@@ -1,7 +1,10 @@
 //! What can be wrong with headers, slices and codestreams of JPEG XS (ISO/IEC 21122-1), and what an encoder can refuse.
 #![tactic(auto)]
 
+ghost use Rattle.std.specs.Prelude.{◌≡◌};
+
 use thiserror::Error;
+use xs_io::Memory;
 
 // What can be wrong with a header.
 
@@ -91,6 +94,21 @@ pub enum HeadFault {
 }
 
 // What can be wrong with precincts, slices and codestreams.
+
+/// Why bits are not the bit-plane counts of a line: the first cause in their order. Code groups are numbered from 0 in the
+/// line.
+#[derive(Clone, Copy, Debug, PartialEq, Eq, Error)]
+pub enum CountFault {
+    /// They end inside a count.
+    #[error("the counts are cut")]
+    Ended,
+    /// A count is over 15; its value.
+    #[error("a bit-plane count is out of range")]
+    Range { group: u32, value: u32 },
+    /// Memory was wanting.
+    #[error("out of memory")]
+    Memory,
+}
 
 /// A part of a packet.
 #[derive(Clone, Copy, Debug, PartialEq, Eq)]
@@ -187,4 +205,66 @@ pub enum SliceRefusal {
     /// Memory was wanting.
     #[error("out of memory")]
     Memory,
+}
+
+// Want of memory is a fault of each.
+
+impl From<Memory> for HeadFault {
+    ghost use Rattle.xs_faults.specs.declared.HeadFault.TheVariants.{Memory};
+
+    ghost from_gives = { λ _ fault. fault ≡ Memory };
+
+    fn from(_memory: Memory) -> HeadFault {
+        HeadFault::Memory
+    }
+}
+
+impl From<Memory> for CountFault {
+    ghost use Rattle.xs_faults.specs.declared.CountFault.TheVariants.{Memory};
+
+    ghost from_gives = { λ _ fault. fault ≡ Memory };
+
+    fn from(_memory: Memory) -> CountFault {
+        CountFault::Memory
+    }
+}
+
+impl From<Memory> for PrecinctFault {
+    ghost use Rattle.xs_faults.specs.declared.PrecinctFault.TheVariants.{Memory};
+
+    ghost from_gives = { λ _ fault. fault ≡ Memory };
+
+    fn from(_memory: Memory) -> PrecinctFault {
+        PrecinctFault::Memory
+    }
+}
+
+impl From<Memory> for SliceFault {
+    ghost use Rattle.xs_faults.specs.declared.SliceFault.TheVariants.{Memory};
+
+    ghost from_gives = { λ _ fault. fault ≡ Memory };
+
+    fn from(_memory: Memory) -> SliceFault {
+        SliceFault::Memory
+    }
+}
+
+impl From<Memory> for StreamFault {
+    ghost use Rattle.xs_faults.specs.declared.StreamFault.TheVariants.{Memory};
+
+    ghost from_gives = { λ _ fault. fault ≡ Memory };
+
+    fn from(_memory: Memory) -> StreamFault {
+        StreamFault::Memory
+    }
+}
+
+impl From<Memory> for SliceRefusal {
+    ghost use Rattle.xs_faults.specs.declared.SliceRefusal.TheVariants.{Memory};
+
+    ghost from_gives = { λ _ fault. fault ≡ Memory };
+
+    fn from(_memory: Memory) -> SliceRefusal {
+        SliceRefusal::Memory
+    }
 }

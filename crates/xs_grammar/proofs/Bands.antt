@@ -3,7 +3,7 @@ use Rattle.std.proofs.Common.{◌≡◌, ℕ, ◌+◌, ◌-◌, ◌*◌, ◌/◌
 use Rattle.xs_params.specs.declared.header.Header.{Header}
 use Rattle.xs_layout.specs.Geometry.{band_types, components_of, ll}
 use Rattle.xs_layout.proofs.Places.{types_of_band, wide_down, deep_down, below_bands}
-use Rattle.xs_grammar.specs.Geometry.{bands_of, precinct_lines}
+use Rattle.xs_params.specs.Geometry.{bands_of, precinct_lines}
 
 -- the bands of the types that are not split down have one line
 pub wide_band : (h : Header) (band : ℕ) → h.nly ≤ h.nlx → band < (h.nlx - h.nly + 1) * components_of h.shape.format → (precinct_lines h band ≡ 1) × (band < bands_of h)

@@ -1,12 +1,12 @@
 -- What is written is in the grammar: packets, precincts and slices.
-use Rattle.std.proofs.Common.{◌≡◌, ℕ, ◌+◌, ◌-◌, ◌*◌, ◌/◌, ◌^◌, ◌<◌, ◌≤◌, List, [], ◌∷◌, map, length, refl, sym, ap, subst, ◌∙◌, arith, append-nil, length-append}
+use Rattle.std.proofs.Common.{◌≡◌, ℕ, ◌+◌, ◌-◌, ◌*◌, ◌/◌, ◌^◌, ◌<◌, ◌≤◌, List, [], ◌∷◌, map, length, replicate, refl, sym, ap, subst, ◌∙◌, arith, length-append}
 use Rattle.std.specs.Prelude.{Bool, true, false, nat_lt, max, not, ◌&&◌, if◌then◌else◌, unsigned_abs}
 use Rattle.std.specs.Bool.{MatchBool}
 use Rattle.std.specs.List.{flat_map, list_all, AllByRecursion}
 use Rattle.std.proofs.lemmas.Bool.{and_parts, and_from, ltb-true, lt-ltb}
 use Rattle.xs_params.specs.declared.header.Header.{Header}
 use Rattle.xs_layout.specs.Geometry.{PacketPlace, groups_of}
-use Rattle.xs_lists.specs.Bits.{bits_of, bits_of_bytes, bits_of_fields, HaveRoom}
+use Rattle.xs_lists.specs.Bits.{bits_of, bits_of_bytes, bits_of_fields, FieldsFit}
 use Rattle.xs_lists.specs.Packing.{missing_bits}
 use Rattle.xs_lists.specs.Spelling.{upto, SpellsBits}
 use Rattle.xs_lists.proofs.Bits.{length-bits_of}
@@ -20,10 +20,10 @@ use Rattle.xs_spelling.specs.Data.{columns_of, sign_bits}
 use Rattle.xs_spelling.specs.Written.{written_flag, is_small, has_small_data, has_line_bits, line_count_bits, line_data_bits, IsWritableCount}
 use Rattle.xs_spelling.proofs.Bitwise.{flags-are, counts-are, data-are, signs-are}
 use Rattle.xs_spelling.proofs.Flags.{list_all-range, has_written_line}
-use Rattle.xs_grammar.specs.Geometry.{bands_of, band_width_of, packet_bands, packets_of, precincts_of}
+use Rattle.xs_params.specs.Geometry.{bands_of, band_width_of, packet_bands, packets_of, precincts_of}
 use Rattle.xs_grammar.specs.Packet.{IsPacket, packet_fields}
 use Rattle.xs_grammar.specs.Precinct.{Content, coded_line, line_truncation, prediction_of, is_first_line, precinct_fields, IsPrecinct, SpellsPacket}
-use Rattle.xs_grammar.specs.Coded.{field_bytes, fields_fit, flags_part, counts_part, data_part, signs_part, lines_fields, lines_bytes, packet_line, packet_bytes, packet_fits, precinct_body, precinct_bytes, precinct_fits, IsWritableLine, IsWritablePrecinct, slice_bytes, IsWritable}
+use Rattle.xs_grammar.specs.Coded.{field_bytes, fields_fit, flags_part, counts_part, data_part, signs_part, lines_fields, lines_bytes, packet_line, packet_bytes, packet_fits, packets_bytes, precinct_body, precinct_bytes, precinct_fits, IsWritableLine, IsWritablePrecinct, slice_bytes, IsWritable}
 use Rattle.xs_grammar.specs.Laws.{WrittenSlice, SliceReadAgain}
 use Rattle.xs_grammar.proofs.OneSlice.{one_slice}
 use Rattle.xs_grammar.proofs.Written.{Parts, packet_written}
@@ -48,7 +48,7 @@ pub length-widths : (fields : List (ℕ × ℕ)) → length (bits_of_fields fiel
 length-widths [] = refl
 length-widths (field ∷ fields) = omega (arith, length-append (bits_of field.0 field.1) (bits_of_fields fields), length-bits_of field.0 field.1, length-widths fields)
 
-pub fits-room : (fields : List (ℕ × ℕ)) → fields_fit fields ≡ true → HaveRoom fields
+pub fits-room : (fields : List (ℕ × ℕ)) → fields_fit fields ≡ true → FieldsFit fields
 fits-room [] h = tt
 fits-room (field ∷ fields) h = let both = and_parts (nat_lt field.1 (2 ^ field.0)) (fields_fit fields) h in (ltb-true field.1 (2 ^ field.0) both.0, fits-room fields both.1)
 
@@ -127,28 +127,28 @@ packet_coded h content mode place plain fits can =
 
 -- Precincts
 
-pub precinct_coded : (h : Header) (content : Content) (mode : ℕ → ℕ → ℕ) (precinct : ℕ) → h.run_mode ≡ 0 → precinct_fits h content mode precinct ≡ true → IsWritablePrecinct h content mode precinct
-    → IsPrecinct h content precinct (precinct_bytes h content mode precinct)
-precinct_coded h content mode precinct plain fits can = record {
+pub precinct_coded : (h : Header) (content : Content) (mode : ℕ → ℕ → ℕ) (filler : ℕ → ℕ) (precinct : ℕ) → h.run_mode ≡ 0 → precinct_fits h content mode filler precinct ≡ true → IsWritablePrecinct h content mode precinct
+    → IsPrecinct h content precinct (precinct_bytes h content mode filler precinct)
+precinct_coded h content mode filler precinct plain fits can = record {
   head = field_bytes fields;
-  body = precinct_body h content mode precinct;
+  body = precinct_body h content mode filler precinct;
   joined = refl;
   mode = mode precinct;
   room = (size, (can.q, (can.r, modes)));
   headed = spells_packed (bits_of_fields fields) (fields-are fields);
-  filled = (precinct_body h content mode precinct, [], sym (append-nil (precinct_body h content mode precinct)), each-made (SpellsPacket h content (mode precinct)) (packet_bytes h content (mode precinct)) (packets_of h precinct) packets);
+  filled = (packets_bytes h content mode precinct, replicate (filler precinct) 0, refl, each-made (SpellsPacket h content (mode precinct)) (packet_bytes h content (mode precinct)) (packets_of h precinct) packets);
 }
   where
     fields : List (ℕ × ℕ)
-    fields = precinct_fields h content precinct (length (precinct_body h content mode precinct)) (mode precinct)
+    fields = precinct_fields h content precinct (length (precinct_body h content mode filler precinct)) (mode precinct)
 
-    both : (list_all (packet_fits h content (mode precinct)) (packets_of h precinct) ≡ true) × (nat_lt (length (precinct_body h content mode precinct)) (2 ^ 24) ≡ true)
-    both = and_parts (list_all (packet_fits h content (mode precinct)) (packets_of h precinct)) (nat_lt (length (precinct_body h content mode precinct)) (2 ^ 24)) fits
+    both : (list_all (packet_fits h content (mode precinct)) (packets_of h precinct) ≡ true) × (nat_lt (length (precinct_body h content mode filler precinct)) (2 ^ 24) ≡ true)
+    both = and_parts (list_all (packet_fits h content (mode precinct)) (packets_of h precinct)) (nat_lt (length (precinct_body h content mode filler precinct)) (2 ^ 24)) fits
 
-    size : length (precinct_body h content mode precinct) < 2 ^ 24
-    size = ltb-true (length (precinct_body h content mode precinct)) (2 ^ 24) both.1
+    size : length (precinct_body h content mode filler precinct) < 2 ^ 24
+    size = ltb-true (length (precinct_body h content mode filler precinct)) (2 ^ 24) both.1
 
-    modes : HaveRoom (map (λ band. (2, mode precinct band)) (upto (bands_of h)))
+    modes : FieldsFit (map (λ band. (2, mode precinct band)) (upto (bands_of h)))
     modes = all-of_map (λ (field : ℕ × ℕ). field.1 < 2 ^ field.0) (λ band. (2, mode precinct band)) (upto (bands_of h)) (range-all (λ band. mode precinct band < 4) 0 (bands_of h) (λ band low high. can.modes band (omega (arith, high))))
 
     packets : AllByRecursion (λ place. SpellsPacket h content (mode precinct) place (packet_bytes h content (mode precinct) place)) (packets_of h precinct)
@@ -158,18 +158,18 @@ precinct_coded h content mode precinct plain fits can = record {
 -- Slices
 
 pub written_slice : WrittenSlice
-written_slice h content mode slice plain index can fits = record {
+written_slice h content mode filler slice plain index can fits = record {
   index = index;
-  body = flat_map (precinct_bytes h content mode) (precincts_of h slice);
+  body = flat_map (precinct_bytes h content mode filler) (precincts_of h slice);
   joined = refl;
-  spelled = each-made (IsPrecinct h content) (precinct_bytes h content mode) (precincts_of h slice)
-      (all-both (λ precinct. precinct_fits h content mode precinct ≡ true) (IsWritablePrecinct h content mode) _ (precincts_of h slice)
-      (λ precinct fits can. precinct_coded h content mode precinct plain fits can) (list_all-all (precinct_fits h content mode) (precincts_of h slice) fits) can);
+  spelled = each-made (IsPrecinct h content) (precinct_bytes h content mode filler) (precincts_of h slice)
+      (all-both (λ precinct. precinct_fits h content mode filler precinct ≡ true) (IsWritablePrecinct h content mode) _ (precincts_of h slice)
+      (λ precinct fits can. precinct_coded h content mode filler precinct plain fits can) (list_all-all (precinct_fits h content mode filler) (precincts_of h slice) fits) can);
 }
 
 pub slice_read_again : SliceReadAgain
-slice_read_again h content other mode slice bytes y z plain below index can fits p e =
-    one_slice h content other slice (slice_bytes h content mode slice) bytes y z below (written_slice h content mode slice plain index can fits) p e
+slice_read_again h content other mode filler slice bytes y z plain below index can fits p e =
+    one_slice h content other slice (slice_bytes h content mode filler slice) bytes y z below (written_slice h content mode filler slice plain index can fits) p e
 
 -- Where each line of each band can be written, a slice is writable as soon as the fields of its precincts have room.
 pub writable_everywhere : (h : Header) (content : Content) (mode : ℕ → ℕ → ℕ) (slice : ℕ) → ((precinct : ℕ) → (content.q precinct < 2 ^ 8) × (content.r precinct < 2 ^ 8)) → ((precinct band : ℕ) → mode precinct band < 4)

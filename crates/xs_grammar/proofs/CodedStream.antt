@@ -9,14 +9,16 @@ use Rattle.xs_layout.specs.declared.Quant.{Quant}
 use Rattle.xs_layout.specs.declared.Quant.TheVariants.{DeadZone, Uniform}
 use Rattle.xs_layout.specs.declared.Weight.{Weight}
 use Rattle.xs_layout.specs.Geometry.{components_of, sampling_of}
-use Rattle.xs_lists.specs.Bits.{bit_of, bits_of_fields, bytes_for, HaveRoom}
+use Rattle.xs_lists.specs.Bits.{bit_of, bits_of_fields, bytes_for, FieldsFit}
 use Rattle.xs_lists.specs.Packing.{missing_bits}
 use Rattle.xs_lists.specs.Spelling.{upto}
 use Rattle.xs_lists.proofs.Each.{each-made, range-all}
 use Rattle.xs_lists.proofs.Packing.{length-packed}
-use Rattle.xs_grammar.specs.Geometry.{slice_count}
+use Rattle.xs_params.specs.Geometry.{slice_count}
 use Rattle.xs_grammar.specs.Slice.{IsSlice}
-use Rattle.xs_grammar.specs.Header.{pih_code, cdt_code, wgt_code, quant_code, picture_fields, component_fields, weight_fields, IsAccepted}
+use Rattle.xs_grammar.specs.Header.{pih_code, cdt_code, wgt_code, quant_code, picture_fields, component_fields, weight_fields}
+use Rattle.xs_params.specs.Accepted.{IsAccepted}
+use Rattle.xs_params.proofs.Accepted.{bits_most}
 use Rattle.xs_grammar.specs.Coded.{field_bytes, slice_bytes, written_segments, header_bytes, HasRoom}
 use Rattle.xs_grammar.specs.Laws.{WrittenHeader, WrittenCodestream}
 use Rattle.xs_grammar.proofs.Coded.{widths, length-widths, fields_whole, written_slice}
@@ -40,19 +42,19 @@ format_room Mono = omega arith
 format_room C422 = omega arith
 format_room C444 = omega arith
 
-picture_room : (h : Header) → IsAccepted h → HasRoom h → HaveRoom (picture_fields h 0 0 0)
+picture_room : (h : Header) → IsAccepted h → HasRoom h → FieldsFit (picture_fields h 0 0 0)
 picture_room h p q =
     omega (
       arith,
       q.lcod,
-      p.width,
-      p.height,
+      p.geometry.shape.width,
+      p.geometry.shape.height,
       q.hsl,
       format_room h.shape.format,
-      p.bits,
+      bits_most h p,
       bit_room h.colour (2 ^ 4) (omega arith),
-      p.nlx,
-      p.nly,
+      p.geometry.nlx,
+      p.geometry.nly,
       bit_room h.long_heads (2 ^ 1) (omega arith),
       quant_room h.quant,
       bit_room h.signs_apart (2 ^ 2) (omega arith),
@@ -64,7 +66,7 @@ picture_room h p q =
 abbrev fields_of : Format → ℕ → List (ℕ × ℕ)
 fields_of format depth = flat_map (λ component. (8, depth) ∷ (4, sampling_of format component) ∷ (4, 1) ∷ []) (upto (components_of format))
 
-component_room : (format : Format) (depth : ℕ) → depth < 2 ^ 8 → HaveRoom (fields_of format depth)
+component_room : (format : Format) (depth : ℕ) → depth < 2 ^ 8 → FieldsFit (fields_of format depth)
 component_room Mono depth h = (h, (omega arith, (omega arith, tt)))
 component_room C422 depth h = (h, (omega arith, (omega arith, (h, (omega arith, (omega arith, (h, (omega arith, (omega arith, tt)))))))))
 component_room C444 depth h = (h, (omega arith, (omega arith, (h, (omega arith, (omega arith, (h, (omega arith, (omega arith, tt)))))))))
@@ -87,7 +89,7 @@ depth_room depth h = omega (arith, h)
 abbrev pairs_of : List Weight → List (ℕ × ℕ)
 pairs_of weights = flat_map (λ (weight : Weight). (8, weight.gain) ∷ (8, weight.priority) ∷ []) weights
 
-weights_room : (weights : List Weight) → AllByRecursion (λ (weight : Weight). weight.gain < 2 ^ 8) weights → AllByRecursion (λ (weight : Weight). weight.priority < 2 ^ 8) weights → HaveRoom (pairs_of weights)
+weights_room : (weights : List Weight) → AllByRecursion (λ (weight : Weight). weight.gain < 2 ^ 8) weights → AllByRecursion (λ (weight : Weight). weight.priority < 2 ^ 8) weights → FieldsFit (pairs_of weights)
 weights_room [] p q = tt
 weights_room (weight ∷ weights) p q = (p.0, (q.0, weights_room weights p.1 q.1))
 
@@ -122,7 +124,7 @@ written_header h p q = record {
     picture_is = record { coded = refl; room = picture_room h p q; spelled = fields_whole (picture_fields h 0 0 0) refl };
     component_is = record {
       coded = refl;
-      room = component_room h.shape.format h.shape.depth (depth_room h.shape.depth p.depth);
+      room = component_room h.shape.format h.shape.depth (depth_room h.shape.depth p.geometry.shape.depth);
       spelled = fields_whole (component_fields h) (whole_pairs (components_of h.shape.format) (widths (component_fields h)) (component_widths h.shape.format h.shape.depth));
     };
     weight_is = record {
@@ -143,19 +145,19 @@ written_header h p q = record {
     weight_size = length-field_bytes (weight_fields h) ∙ ap bytes_for (weights_widths h.weights)
 
     bands : length h.weights ≤ 30
-    bands = subst (λ n. n ≤ 30) (sym p.weights) (most_bands h.shape.format h.nlx h.nly (omega (arith, p.nlx)) (omega (arith, p.nly)))
+    bands = subst (λ n. n ≤ 30) (sym p.weights) (most_bands h.shape.format h.nlx h.nly (omega (arith, p.geometry.nlx)) (omega (arith, p.geometry.nly)))
 
 pub written_codestream : WrittenCodestream
-written_codestream h content mode p q can stated = record {
+written_codestream h content mode filler p q can stated = record {
   header = header_bytes h;
-  slices = flat_map (slice_bytes h content mode) (upto (slice_count h));
+  slices = flat_map (slice_bytes h content mode filler) (upto (slice_count h));
   joined = refl;
   headed = written_header h p q;
-  spelled = each-made (IsSlice h content) (slice_bytes h content mode) (upto (slice_count h))
-      (range-all (λ slice. IsSlice h content slice (slice_bytes h content mode slice)) 0 (slice_count h)
-      (λ slice low high. written_slice h content mode slice can.plain (index slice (omega (arith, high))) (can.slices slice (omega (arith, high))) (can.fits slice (omega (arith, high)))));
+  spelled = each-made (IsSlice h content) (slice_bytes h content mode filler) (upto (slice_count h))
+      (range-all (λ slice. IsSlice h content slice (slice_bytes h content mode filler slice)) 0 (slice_count h)
+      (λ slice low high. written_slice h content mode filler slice can.plain (index slice (omega (arith, high))) (can.slices slice (omega (arith, high))) (can.fits slice (omega (arith, high)))));
   stated = stated;
 }
   where
     index : (slice : ℕ) → slice < slice_count h → slice < 2 ^ 16
-    index slice inside = let most = p.slices in omega (arith, most, inside)
+    index slice inside = let most = p.geometry.slices in omega (arith, most, inside)

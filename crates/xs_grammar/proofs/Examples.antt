@@ -15,7 +15,7 @@ use Rattle.xs_layout.specs.declared.Weight.{Weight}
 use Rattle.xs_params.specs.declared.header.Header.{Header}
 use Rattle.xs_lists.specs.Spelling.{upto}
 use Rattle.xs_layout.specs.Geometry.{PacketPlace, band_types, BandType}
-use Rattle.xs_grammar.specs.Geometry.{bands_of, band_height_of, band_width_of, precinct_count, slice_count, precincts_of, packets_of, lines_of}
+use Rattle.xs_params.specs.Geometry.{bands_of, band_height_of, band_width_of, precinct_count, slice_count, precincts_of, packets_of, lines_of}
 use Rattle.xs_layout.specs.Weighting.{truncation_of}
 
 abbrev place_of : PacketPlace → ℕ × ℕ

@@ -6,12 +6,14 @@ use Rattle.std.specs.Prelude.{Bool, true, false, nat_eq, if◌then◌else◌, po
 use Rattle.xs_layout.specs.declared.Format.TheVariants.{Mono}
 use Rattle.xs_layout.specs.declared.Quant.TheVariants.{DeadZone}
 use Rattle.xs_params.specs.declared.header.Header.{Header}
-use Rattle.xs_lists.specs.Bits.{bits_of, bits_of_fields, HaveRoom}
+use Rattle.xs_lists.specs.Bits.{bits_of, bits_of_fields, FieldsFit}
 use Rattle.xs_lists.specs.Spelling.{SpellsEach, SpellsPadded}
 use Rattle.xs_spelling.specs.Counts.{Line}
-use Rattle.xs_grammar.specs.Header.{Segment, IsHeader, IsAccepted, IsHeaderUnit, pih_code, cdt_code, wgt_code, cap_code, com_code}
+use Rattle.xs_grammar.specs.Header.{Segment, IsHeader, IsHeaderUnit, pih_code, cdt_code, wgt_code, cap_code, com_code}
+use Rattle.xs_params.specs.Accepted.{IsAccepted}
+use Rattle.xs_params.specs.Boxes.{AreBoxes}
 use Rattle.xs_layout.specs.Geometry.{PacketPlace}
-use Rattle.xs_grammar.specs.Geometry.{packets_of}
+use Rattle.xs_params.specs.Geometry.{packets_of}
 use Rattle.xs_grammar.specs.Precinct.{Content, IsPrecinct, SpellsPacket, precinct_fields, coded_line}
 use Rattle.xs_grammar.specs.Slice.{IsSlice}
 use Rattle.xs_grammar.specs.Codestream.{IsCodestream}
@@ -65,18 +67,17 @@ weight = record { code = wgt_code; body = 0 ∷ 0 ∷ 0 ∷ 1 ∷ [] }
 
 accepted : (apart : Bool) (lcod : ℕ) → IsAccepted (grey apart lcod)
 accepted apart lcod = record {
-  width = omega arith;
-  height = omega arith;
-  area = omega arith;
-  depth = inl refl;
-  hsl = omega arith;
-  bits = (refl, refl);
+  geometry = record {
+    shape = record { width = omega arith; height = omega arith; area = omega arith; depth = inl refl };
+    hsl = omega arith;
+    nlx = omega arith;
+    nly = omega arith;
+    slices = omega arith;
+    narrow = omega arith;
+  };
+  bits = (inr refl, refl);
   colour = λ e. absurd (false≢true e);
-  nlx = omega arith;
-  nly = omega arith;
-  slices = omega arith;
   run_mode = omega arith;
-  narrow = omega arith;
   weights = refl;
 }
 
@@ -276,7 +277,7 @@ place_of precinct = record { first_type = 0; types = 2; line = precinct }
 
 -- the header of a precinct of this form
 abbrev Headed : ℕ → Form → Type 0
-Headed lcod form = HaveRoom (precinct_fields (grey form.apart lcod) black 0 (length (packet_bytes form)) form.mode)
+Headed lcod form = FieldsFit (precinct_fields (grey form.apart lcod) black 0 (length (packet_bytes form)) form.mode)
     × SpellsPadded form.head (bits_of_fields (precinct_fields (grey form.apart lcod) black 0 (length (packet_bytes form)) form.mode))
 
 precinct_is : (lcod : ℕ) (form : Form) (precinct : ℕ) → packets_of (grey form.apart lcod) precinct ≡ place_of precinct ∷ [] → Headed lcod form → FormParts lcod form precinct
@@ -547,7 +548,14 @@ abbrev box : List ℕ
 box = 0 ∷ 0 ∷ 0 ∷ 0x0c ∷ 1 ∷ 2 ∷ 3 ∷ 4 ∷ 5 ∷ 6 ∷ 7 ∷ 8 ∷ []
 
 boxed : IsHeaderUnit (grey false 0) (box ++ other_bytes) 56
-boxed = (box ∷ [], other_bytes, (record { size = omega arith; unlike = λ e. absurd (omega (arith, e)); begin = (1 ∷ 2 ∷ 3 ∷ 4 ∷ 5 ∷ 6 ∷ 7 ∷ 8 ∷ [], refl) }, tt), refl, header_other, refl)
+boxed = (box, other_bytes, boxes, refl, header_other, refl)
+  where
+    boxes : AreBoxes box
+    boxes = record {
+      boxes = box ∷ [];
+      whole = (record { size = omega arith; unlike = λ e. absurd (omega (arith, e)); begin = (1 ∷ 2 ∷ 3 ∷ 4 ∷ 5 ∷ 6 ∷ 7 ∷ 8 ∷ [], refl) }, tt);
+      joined = refl;
+    }
 
 filler : IsPrecinct (grey false 215) black 3 (0 ∷ 0 ∷ 0x23 ∷ 0 ∷ 0 ∷ 0xe5 ∷ packet_bytes other ++ (7 ∷ 8 ∷ 9 ∷ []))
 unfolding bits_of predicted_3 precinct_is

@@ -13,8 +13,9 @@ use Rattle.xs_lists.specs.Bits.{bits_of_bytes}
 use Rattle.xs_lists.specs.Spelling.{upto}
 use Rattle.xs_lists.proofs.Cut.{append_cut, fields_agree, all-both}
 use Rattle.xs_layout.specs.Geometry.{components_of, sampling_of}
-use Rattle.xs_grammar.specs.Geometry.{bands_of}
-use Rattle.xs_grammar.specs.Header.{Segment, segment_bytes, is_stepped_over, cap_code, com_code, crg_code, pih_code, cdt_code, wgt_code, quant_code, picture_fields, component_fields, weight_fields, IsSegment, AreSegmentsOf, soc}
+use Rattle.xs_params.specs.Geometry.{bands_of}
+use Rattle.xs_grammar.specs.Header.{Segment, segment_bytes, is_stepped_over, cap_code, com_code, crg_code, pih_code, cdt_code, wgt_code, quant_code, picture_fields, component_fields, weight_fields, IsSegment, AreSegmentsOf}
+use Rattle.xs_params.specs.Markers.{soc}
 use Rattle.xs_grammar.specs.Laws.{FollowsHeader, OneHeader}
 use Rattle.xs_spelling.proofs.OneData.{bit_of-one}
 

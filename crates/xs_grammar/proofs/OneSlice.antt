@@ -12,7 +12,7 @@ use Rattle.xs_lists.proofs.Each.{each-agree, range-all, all-range}
 use Rattle.xs_lists.proofs.Cut.{same_head, append_cut, all-each, all-downto, padded_agrees}
 use Rattle.xs_lists.proofs.Walk.{each-filter, each-of_map, each-of_flat, all-filter, all-of_map, all-of_flat, downto-all, each-walk}
 use Rattle.xs_layout.specs.Geometry.{groups_of, components_of, PacketPlace}
-use Rattle.xs_grammar.specs.Geometry.{band_width_of, band_height_of, bands_of, precinct_lines, precinct_count, packet_bands, packet_places, packets_of, has_line}
+use Rattle.xs_params.specs.Geometry.{band_width_of, band_height_of, bands_of, precinct_lines, precinct_count, packet_bands, packet_places, packets_of, has_line}
 use Rattle.xs_spelling.specs.Counts.{predicts_above}
 use Rattle.xs_grammar.specs.Precinct.{Content, precinct_of, is_first_line, line_truncation, prediction_of, coded_line, weight_of, precinct_fields, SpellsPacket, IsPrecinct}
 use Rattle.xs_layout.specs.Weighting.{truncation_of}
@@ -195,7 +195,7 @@ guarded_agrees h content other mode modes place known a b y z p q e = go (has_li
     go true known p q = let same = packet_agrees h content other mode modes place (known refl) a b y z p q e in (same.0, λ t. same.1)
     go false known p q = (ap (λ l. l ++ y) (sym p) ∙ e ∙ ap (λ l. l ++ z) q, λ f. absurd (false≢true f))
 
-has_before : (line before height : ℕ) → nat_lt line height ≡ true → before ≤ line → nat_lt before height ≡ true
+pub has_before : (line before height : ℕ) → nat_lt line height ≡ true → before ≤ line → nat_lt before height ≡ true
 has_before line before height e b = let low = ltb-true line height e in lt-ltb before height (omega (arith, low, b))
 
 -- The packets of a precinct, where the precincts of the slice before it are known
@@ -295,11 +295,11 @@ packets_agree h content other slice precinct mode modes below from known q r sam
 
 -- One precinct
 
-mode_widths : (mode modes : ℕ → ℕ) (bands : List ℕ) → map (λ (f : ℕ × ℕ). f.0) (map (λ band. (2, mode band)) bands) ≡ map (λ (f : ℕ × ℕ). f.0) (map (λ band. (2, modes band)) bands)
+pub mode_widths : (mode modes : ℕ → ℕ) (bands : List ℕ) → map (λ (f : ℕ × ℕ). f.0) (map (λ band. (2, mode band)) bands) ≡ map (λ (f : ℕ × ℕ). f.0) (map (λ band. (2, modes band)) bands)
 mode_widths mode modes [] = refl
 mode_widths mode modes (x ∷ xs) = ap (λ l. 2 ∷ l) (mode_widths mode modes xs)
 
-mode_values : (mode modes : ℕ → ℕ) (bands : List ℕ) → map (λ (f : ℕ × ℕ). f.1) (map (λ band. (2, mode band)) bands) ≡ map (λ (f : ℕ × ℕ). f.1) (map (λ band. (2, modes band)) bands)
+pub mode_values : (mode modes : ℕ → ℕ) (bands : List ℕ) → map (λ (f : ℕ × ℕ). f.1) (map (λ band. (2, mode band)) bands) ≡ map (λ (f : ℕ × ℕ). f.1) (map (λ band. (2, modes band)) bands)
     → AllByRecursion (λ band. mode band ≡ modes band) bands
 mode_values mode modes [] e = tt
 mode_values mode modes (x ∷ xs) e =

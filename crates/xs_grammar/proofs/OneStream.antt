@@ -10,9 +10,10 @@ use Rattle.xs_lists.specs.Spelling.{upto, BeginsWith, SpellsEach}
 use Rattle.xs_lists.proofs.Each.{each-agree, range-all}
 use Rattle.xs_lists.proofs.Cut.{append_cut}
 use Rattle.xs_layout.specs.Geometry.{ceil_div}
-use Rattle.xs_grammar.specs.Geometry.{precinct_count, slice_count, precincts_of}
+use Rattle.xs_params.specs.Geometry.{precinct_count, slice_count, precincts_of}
 use Rattle.xs_grammar.specs.Precinct.{Content}
-use Rattle.xs_grammar.specs.Slice.{slh, eoc, IsSlice, slice_head}
+use Rattle.xs_grammar.specs.Slice.{IsSlice, slice_head}
+use Rattle.xs_params.specs.Markers.{slh, eoc}
 use Rattle.xs_grammar.specs.Codestream.{IsCodestream}
 use Rattle.xs_grammar.specs.Laws.{FollowsHeader, SamePrecinct, OneCodestream}
 use Rattle.xs_grammar.proofs.OneHeader.{one_header}
@@ -34,10 +35,10 @@ slices_begin h content zero slices rest some p = absurd (omega (arith, some))
 slices_begin h content (suc n) slices rest some p =
     (0 ∷ 4 ∷ 0 ∷ 0 ∷ p.3.body ++ (p.1 ++ rest), ap (λ l. l ++ rest) (p.2 ∙ ap (λ l. l ++ p.1) p.3.joined) ∙ append_assoc (slice_head 0 ++ p.3.body) p.1 rest ∙ append_assoc (slice_head 0) p.3.body (p.1 ++ rest))
 
-follows : (h : Header) (content : Content) (bytes rest : List ℕ) (p : IsCodestream h content bytes) → FollowsHeader (p.slices ++ rest)
+pub follows : (h : Header) (content : Content) (bytes rest : List ℕ) (p : IsCodestream h content bytes) → FollowsHeader (p.slices ++ rest)
 follows h content bytes rest p =
     inr (slices_begin h content (slice_count h) p.slices rest
-    (ceil_some (precinct_count h) h.hsl (ceil_some h.shape.height (2 ^ h.nly) (omega (arith, p.headed.accepted.height)) (pow_pos h.nly)) p.headed.accepted.hsl) p.spelled)
+    (ceil_some (precinct_count h) h.hsl (ceil_some h.shape.height (2 ^ h.nly) (omega (arith, p.headed.accepted.geometry.shape.height)) (pow_pos h.nly)) p.headed.accepted.geometry.hsl) p.spelled)
 
 pub one_codestream : OneCodestream
 one_codestream h other content contents a b y z p q e = (end.1, same.1, slices.1)
@@ -59,7 +60,7 @@ one_codestream h other content contents a b y z p q e = (end.1, same.1, slices.1
         (range-all _ 0 (slice_count h) (λ slice _ _ a b y z p q e. one_slice h content contents slice a b y z below p q e)) p.slices q.slices (eoc ++ y) (eoc ++ z) p.spelled moved same.0
       where
         below : h.nly ≤ h.nlx
-        below = let least = p.headed.accepted.nly in omega (arith, least)
+        below = let least = p.headed.accepted.geometry.nly in omega (arith, least)
 
     end : (eoc ≡ eoc) × (y ≡ z)
     end = append_cut eoc eoc y z refl slices.0

@@ -3,7 +3,7 @@ use Rattle.std.proofs.Common.{◌≡◌, ℕ, List, [], ◌++◌, length, refl}
 use Rattle.std.specs.Prelude.{Bool, true, false, IsTrue, if◌then◌else◌}
 use Rattle.std.specs.List.{flat_map, list_all}
 use Rattle.std.specs.Bool.{MatchBool}
-use Rattle.xs_lists.specs.Bits.{bits_of_bytes, bits_of_fields, HaveRoom}
+use Rattle.xs_lists.specs.Bits.{bits_of_bytes, bits_of_fields, FieldsFit}
 use Rattle.xs_lists.specs.Spelling.{SpellsBits, SpellsPadded}
 use Rattle.xs_lists.proofs.Each.{each-tested}
 use Rattle.xs_spelling.proofs.Written.{raw_written, counts_written, data_written}
@@ -24,7 +24,7 @@ band_counts_written false run_mode bands line flag h =
 
 -- What a writer of a packet has to see to: the flags are its choice, and each part begins with its bits.
 pub record Parts (h : Header) (bands : List ℕ) (line : ℕ → Line) (raw : Bool) (flag : ℕ → ℕ → ℕ) (stated : ℕ) (head significance counts planes signs : List ℕ) : Type 0 where
-  pub room : HaveRoom (packet_fields h.long_heads raw (length planes) (length counts) stated)
+  pub room : FieldsFit (packet_fields h.long_heads raw (length planes) (length counts) stated)
   pub headed : bits_of_bytes head ≡ bits_of_fields (packet_fields h.long_heads raw (length planes) (length counts) stated)
   pub flagged : SpellsPadded significance (if raw then [] else flat_map (λ band. flag_bits (line band) (flag band)) bands)
   pub counted : SpellsBits counts (flat_map (λ band. line_count_bits raw (line band) (flag band)) bands)

@@ -1,6 +1,6 @@
 -- The bytes that a writer gives of a content: 'Slice, precinct and packet', 'Picture header' and 'Codestream layout'. Where the grammar leaves a choice the
--- counts are coded, flags are set exactly where a residual can be left out, padding is zero, there is no filler, and the sign of 0 is clear.
-use Rattle.std.specs.Prelude.{◌≡◌, ℕ, ◌-◌, ◌*◌, ◌/◌, ◌^◌, ◌<◌, ◌≤◌, Bool, false, IsTrue, nat_lt, ◌&&◌, if◌then◌else◌, unsigned_abs, List, [], ◌∷◌, ◌++◌, length}
+-- counts are coded, flags are set exactly where a residual can be left out, padding and filler are zero, and the sign of 0 is clear.
+use Rattle.std.specs.Prelude.{◌≡◌, ℕ, ◌-◌, ◌*◌, ◌/◌, ◌^◌, ◌<◌, ◌≤◌, Bool, false, IsTrue, nat_lt, ◌&&◌, if◌then◌else◌, unsigned_abs, List, [], ◌∷◌, ◌++◌, length, replicate}
 use Rattle.std.specs.List.{flat_map, list_all, AllByRecursion}
 use Rattle.xs_layout.specs.Geometry.{PacketPlace, groups_of}
 use Rattle.xs_layout.specs.declared.Weight.{Weight}
@@ -11,11 +11,12 @@ use Rattle.xs_params.specs.declared.header.Header.{Header}
 use Rattle.xs_spelling.specs.Counts.{Line, flag_bits}
 use Rattle.xs_spelling.specs.Data.{sign_bits}
 use Rattle.xs_spelling.specs.Written.{written_flag, line_count_bits, line_data_bits}
-use Rattle.xs_grammar.specs.Geometry.{bands_of, band_width_of, packet_bands, packets_of, precincts_of, slice_count}
+use Rattle.xs_params.specs.Geometry.{bands_of, band_width_of, packet_bands, packets_of, precincts_of, slice_count}
 use Rattle.xs_grammar.specs.Packet.{packet_fields}
 use Rattle.xs_grammar.specs.Precinct.{Content, line_truncation, coded_line, precinct_fields}
-use Rattle.xs_grammar.specs.Slice.{slice_head, eoc}
-use Rattle.xs_grammar.specs.Header.{soc, Segment, segment_bytes, cap_code, pih_code, cdt_code, wgt_code, picture_fields, component_fields, weight_fields}
+use Rattle.xs_grammar.specs.Slice.{slice_head}
+use Rattle.xs_params.specs.Markers.{eoc, soc}
+use Rattle.xs_grammar.specs.Header.{Segment, segment_bytes, cap_code, pih_code, cdt_code, wgt_code, picture_fields, component_fields, weight_fields}
 
 -- the bytes of fields, and whether each value has room in its field
 abbrev pub field_bytes : List (ℕ × ℕ) → List ℕ
@@ -61,27 +62,35 @@ packet_bytes h content mode place = lines_bytes h (packet_bands h place) (packet
 abbrev pub packet_fits : Header → Content → (ℕ → ℕ) → PacketPlace → Bool
 packet_fits h content mode place = fields_fit (lines_fields h (packet_bands h place) (packet_line h content mode place))
 
--- Precincts and slices, by the mode of each precinct and band
+-- Precincts and slices, by the mode of each precinct and band, and by the zero bytes of filler of each precinct
 
--- what follows the header of a precinct: its packets
-abbrev pub precinct_body : Header → Content → (ℕ → ℕ → ℕ) → ℕ → List ℕ
-precinct_body h content mode precinct = flat_map (packet_bytes h content (mode precinct)) (packets_of h precinct)
+-- no precinct has any
+abbrev pub no_filler : ℕ → ℕ
+no_filler precinct = 0
+
+-- the packets of a precinct
+abbrev pub packets_bytes : Header → Content → (ℕ → ℕ → ℕ) → ℕ → List ℕ
+packets_bytes h content mode precinct = flat_map (packet_bytes h content (mode precinct)) (packets_of h precinct)
+
+-- what follows the header of a precinct: its packets, and the filler
+abbrev pub precinct_body : Header → Content → (ℕ → ℕ → ℕ) → (ℕ → ℕ) → ℕ → List ℕ
+precinct_body h content mode filler precinct = packets_bytes h content mode precinct ++ replicate (filler precinct) 0
 
 -- the bytes of a precinct, and whether all its sizes have room in their fields
-abbrev pub precinct_bytes : Header → Content → (ℕ → ℕ → ℕ) → ℕ → List ℕ
-precinct_bytes h content mode precinct =
-    field_bytes (precinct_fields h content precinct (length (precinct_body h content mode precinct)) (mode precinct)) ++ precinct_body h content mode precinct
+abbrev pub precinct_bytes : Header → Content → (ℕ → ℕ → ℕ) → (ℕ → ℕ) → ℕ → List ℕ
+precinct_bytes h content mode filler precinct =
+    field_bytes (precinct_fields h content precinct (length (precinct_body h content mode filler precinct)) (mode precinct)) ++ precinct_body h content mode filler precinct
 
-abbrev pub precinct_fits : Header → Content → (ℕ → ℕ → ℕ) → ℕ → Bool
-precinct_fits h content mode precinct =
-    list_all (packet_fits h content (mode precinct)) (packets_of h precinct) && nat_lt (length (precinct_body h content mode precinct)) (2 ^ 24)
+abbrev pub precinct_fits : Header → Content → (ℕ → ℕ → ℕ) → (ℕ → ℕ) → ℕ → Bool
+precinct_fits h content mode filler precinct =
+    list_all (packet_fits h content (mode precinct)) (packets_of h precinct) && nat_lt (length (precinct_body h content mode filler precinct)) (2 ^ 24)
 
 -- the bytes of a slice, and whether all its sizes have room in their fields
-abbrev pub slice_bytes : Header → Content → (ℕ → ℕ → ℕ) → ℕ → List ℕ
-slice_bytes h content mode slice = slice_head slice ++ flat_map (precinct_bytes h content mode) (precincts_of h slice)
+abbrev pub slice_bytes : Header → Content → (ℕ → ℕ → ℕ) → (ℕ → ℕ) → ℕ → List ℕ
+slice_bytes h content mode filler slice = slice_head slice ++ flat_map (precinct_bytes h content mode filler) (precincts_of h slice)
 
-abbrev pub slice_fits : Header → Content → (ℕ → ℕ → ℕ) → ℕ → Bool
-slice_fits h content mode slice = list_all (precinct_fits h content mode) (precincts_of h slice)
+abbrev pub slice_fits : Header → Content → (ℕ → ℕ → ℕ) → (ℕ → ℕ) → ℕ → Bool
+slice_fits h content mode filler slice = list_all (precinct_fits h content mode filler) (precincts_of h slice)
 
 -- What can be written
 
@@ -128,11 +137,11 @@ pub record HasRoom (h : Header) : Type 0 where
 -- Codestreams
 
 -- the bytes of a codestream: its header, its slices in order and the end marker
-abbrev pub codestream_bytes : Header → Content → (ℕ → ℕ → ℕ) → List ℕ
-codestream_bytes h content mode = header_bytes h ++ (flat_map (slice_bytes h content mode) (upto (slice_count h)) ++ eoc)
+abbrev pub codestream_bytes : Header → Content → (ℕ → ℕ → ℕ) → (ℕ → ℕ) → List ℕ
+codestream_bytes h content mode filler = header_bytes h ++ (flat_map (slice_bytes h content mode filler) (upto (slice_count h)) ++ eoc)
 
 -- a content can be written as a codestream: each slice can, and its sizes have room in their fields
-pub record IsWritableStream (h : Header) (content : Content) (mode : ℕ → ℕ → ℕ) : Type 0 where
+pub record IsWritableStream (h : Header) (content : Content) (mode : ℕ → ℕ → ℕ) (filler : ℕ → ℕ) : Type 0 where
   pub plain : h.run_mode ≡ 0
   pub slices : (slice : ℕ) → slice < slice_count h → IsWritable h content mode slice
-  pub fits : (slice : ℕ) → slice < slice_count h → IsTrue (slice_fits h content mode slice)
+  pub fits : (slice : ℕ) → slice < slice_count h → IsTrue (slice_fits h content mode filler slice)

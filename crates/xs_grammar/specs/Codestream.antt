@@ -2,10 +2,11 @@
 use Rattle.std.specs.Prelude.{◌≡◌, ℕ, ◌⊎◌, List, ◌++◌, length}
 use Rattle.xs_params.specs.declared.header.Header.{Header}
 use Rattle.xs_lists.specs.Spelling.{upto, FirstAre, SpellsEach}
-use Rattle.xs_grammar.specs.Geometry.{slice_count}
+use Rattle.xs_params.specs.Geometry.{slice_count}
 use Rattle.xs_grammar.specs.Header.{IsHeader}
 use Rattle.xs_grammar.specs.Precinct.{Content}
-use Rattle.xs_grammar.specs.Slice.{eoc, IsSlice}
+use Rattle.xs_grammar.specs.Slice.{IsSlice}
+use Rattle.xs_params.specs.Markers.{eoc}
 
 -- the bytes are a codestream: its header, its slices in order and the end marker; the length that the header states is 0 or theirs
 pub record IsCodestream (h : Header) (content : Content) (bytes : List ℕ) : Type 0 where

@@ -1,21 +1,17 @@
 -- The header of a codestream: 'Picture header', and the segments of 'Codestream layout'.
-use Rattle.std.specs.Prelude.{◌≡◌, ◌≢◌, ℕ, ◌+◌, ◌-◌, ◌*◌, ◌/◌, ◌^◌, ◌<◌, ◌≤◌, ◌⊎◌, min, Bool, true, not, ◌||◌, nat_eq, List, [], ◌∷◌, ◌++◌, length, drop}
-use Rattle.std.specs.Int.{to_be_bytes, w16, w32}
-use Rattle.std.specs.List.{flat_map, filter, concat, AllByRecursion}
-use Rattle.xs_layout.specs.declared.Format.TheVariants.{C444}
+use Rattle.std.specs.Prelude.{◌≡◌, ℕ, ◌+◌, ◌^◌, ◌<◌, ◌⊎◌, Bool, not, ◌||◌, nat_eq, List, [], ◌∷◌, ◌++◌, length, drop}
+use Rattle.std.specs.Int.{to_be_bytes, w16}
+use Rattle.std.specs.List.{flat_map, filter, AllByRecursion}
 use Rattle.xs_layout.specs.declared.Quant.{Quant}
 use Rattle.xs_layout.specs.declared.Quant.TheVariants.{DeadZone, Uniform}
 use Rattle.xs_layout.specs.declared.Weight.{Weight}
 use Rattle.xs_params.specs.declared.header.Header.{Header}
-use Rattle.xs_lists.specs.Bits.{bits_of_bytes, bits_of_fields, HaveRoom, bit_of}
+use Rattle.xs_lists.specs.Bits.{bits_of_bytes, bits_of_fields, FieldsFit, bit_of}
 use Rattle.xs_lists.specs.Spelling.{upto, BeginsWith, FirstAre}
 use Rattle.xs_layout.specs.Geometry.{components_of, sampling_of}
-use Rattle.xs_grammar.specs.Geometry.{component_width, bands_of, slice_count}
-use Rattle.xs_grammar.specs.Slice.{slh}
-
--- the marker that begins a codestream
-abbrev pub soc : List ℕ
-soc = 0xff ∷ 0x10 ∷ []
+use Rattle.xs_params.specs.Accepted.{IsAccepted}
+use Rattle.xs_params.specs.Boxes.{AreBoxes}
+use Rattle.xs_params.specs.Markers.{soc, slh}
 
 -- A segment: a code and a body, with the length of the body and of itself between them
 pub record Segment : Type 0 where
@@ -88,26 +84,8 @@ weight_fields h = flat_map (λ (weight : Weight). (8, weight.gain) ∷ (8, weigh
 -- the segment has this code and spells these fields, and nothing else
 pub record IsSegment (code : ℕ) (fields : List (ℕ × ℕ)) (s : Segment) : Type 0 where
   pub coded : s.code ≡ code
-  pub room : HaveRoom fields
+  pub room : FieldsFit fields
   pub spelled : bits_of_bytes s.body ≡ bits_of_fields fields
-
--- the values that are accepted
-pub record IsAccepted (h : Header) : Type 0 where
-  pub width : (32 ≤ h.shape.width) × (h.shape.width ≤ 8192)
-  pub height : (4 ≤ h.shape.height) × (h.shape.height ≤ 8192)
-  pub area : h.shape.width * h.shape.height ≤ 2 ^ 24
-  pub depth : (h.shape.depth ≡ 8) ⊎ (h.shape.depth ≡ 10) ⊎ (h.shape.depth ≡ 12)
-  pub hsl : 1 ≤ h.hsl
-  pub bits : (h.bw ≡ 20) × (h.fq ≡ 8)
-  -- the colour transform wants three components of one size
-  pub colour : h.colour ≡ true → h.shape.format ≡ C444
-  pub nlx : (1 ≤ h.nlx) × (h.nlx ≤ 5)
-  pub nly : h.nly ≤ min 2 h.nlx
-  pub slices : slice_count h ≤ 2047
-  pub run_mode : h.run_mode ≤ 1
-  -- the last component, which is the narrowest, has a coefficient on the low side
-  pub narrow : 2 ^ h.nlx ≤ component_width h (components_of h.shape.format - 1)
-  pub weights : length h.weights ≡ bands_of h
 
 -- The segments say what h says: without those that are stepped over they are the picture header and then components and weights, in either order.
 pub record AreSegmentsOf (h : Header) (segments : List Segment) : Type 0 where
@@ -135,13 +113,6 @@ pub record IsHeader (h : Header) (bytes : List ℕ) : Type 0 where
 abbrev pub IsHeaderFront : Header → List ℕ → ℕ → Type 0
 IsHeaderFront h bytes n = FirstAre (IsHeader h) bytes n × ((n ≡ length bytes) ⊎ BeginsWith (drop n bytes) slh)
 
--- a box of a file format: its length in four bytes, which do not begin like the start marker, and then what makes up that length
-pub record IsBox (bytes : List ℕ) : Type 0 where
-  pub size : (8 ≤ length bytes) × (length bytes < 2 ^ 32)
-  pub unlike : length bytes / 2 ^ 16 ≢ 0xff10
-  pub begin : BeginsWith bytes (to_be_bytes w32 (length bytes))
-
 -- the bytes are what is sent of a header: whole boxes, and a header of len bytes that ends with them
 abbrev pub IsHeaderUnit : Header → List ℕ → ℕ → Type 0
-IsHeaderUnit h bytes len =
-    (boxes : List (List ℕ)) × (stream : List ℕ) × AllByRecursion IsBox boxes × (bytes ≡ concat boxes ++ stream) × IsHeader h stream × (len ≡ length stream)
+IsHeaderUnit h bytes len = (boxes : List ℕ) × (stream : List ℕ) × AreBoxes boxes × (bytes ≡ boxes ++ stream) × IsHeader h stream × (len ≡ length stream)

@@ -4,10 +4,12 @@ use Rattle.std.specs.List.{AllByRecursion}
 use Rattle.xs_params.specs.declared.header.Header.{Header}
 use Rattle.xs_grammar.specs.Packet.{IsPacket}
 use Rattle.xs_layout.specs.Geometry.{groups_of}
-use Rattle.xs_grammar.specs.Geometry.{band_width_of, packet_bands, packets_of, precincts_of, slice_count}
-use Rattle.xs_grammar.specs.Precinct.{Content, precinct_of}
-use Rattle.xs_grammar.specs.Slice.{IsSlice, slh}
-use Rattle.xs_grammar.specs.Header.{IsAccepted, IsHeader}
+use Rattle.xs_params.specs.Geometry.{band_width_of, packet_bands, packets_of, precincts_of, slice_count}
+use Rattle.xs_grammar.specs.Precinct.{Content, IsPrecinct, precinct_of}
+use Rattle.xs_grammar.specs.Slice.{IsSlice}
+use Rattle.xs_params.specs.Markers.{slh}
+use Rattle.xs_grammar.specs.Header.{IsHeader}
+use Rattle.xs_params.specs.Accepted.{IsAccepted}
 use Rattle.xs_grammar.specs.Codestream.{IsCodestream}
 use Rattle.xs_grammar.specs.Coded.{slice_bytes, slice_fits, IsWritable, HasRoom, header_bytes, codestream_bytes, IsWritableStream}
 use Rattle.xs_lists.specs.Packing.{AreBytes}
@@ -48,6 +50,18 @@ pub record AgreeOnSlice (h : Header) (content other : Content) (slice : ℕ) : T
   pub count : (band line : ℕ) → precinct_of h band line / h.hsl ≡ slice → content.count band line ≡ other.count band line
   pub value : (band line : ℕ) → precinct_of h band line / h.hsl ≡ slice → content.value band line ≡ other.value band line
 
+-- two contents that agree on the precincts of a slice up to one of them, and on all lines of theirs
+pub record AgreeUpTo (h : Header) (content other : Content) (slice last : ℕ) : Type 0 where
+  pub q : (precinct : ℕ) → precinct / h.hsl ≡ slice → precinct ≤ last → content.q precinct ≡ other.q precinct
+  pub r : (precinct : ℕ) → precinct / h.hsl ≡ slice → precinct ≤ last → content.r precinct ≡ other.r precinct
+  pub count : (band line : ℕ) → precinct_of h band line / h.hsl ≡ slice → precinct_of h band line ≤ last → content.count band line ≡ other.count band line
+  pub value : (band line : ℕ) → precinct_of h band line / h.hsl ≡ slice → precinct_of h band line ≤ last → content.value band line ≡ other.value band line
+
+-- a precinct speaks of its own part of the content and of what stands before it in its slice, whatever its modes
+abbrev pub PrecinctIsLocal : Type 0
+PrecinctIsLocal = (h : Header) (content other : Content) (precinct : ℕ) (bytes : List ℕ) → 1 ≤ h.hsl → h.nly ≤ h.nlx → AgreeUpTo h content other (precinct / h.hsl) precinct
+    → IsPrecinct h content precinct bytes → IsPrecinct h other precinct bytes
+
 -- a slice speaks of its own part of the content alone, so that slices that were read apart are put together
 abbrev pub SliceIsLocal : Type 0
 SliceIsLocal = (h : Header) (content other : Content) (slice : ℕ) (bytes : List ℕ) → 1 ≤ h.hsl → h.nly ≤ h.nlx → AgreeOnSlice h content other slice
@@ -68,8 +82,8 @@ OneCodestream = (h other : Header) (content contents : Content) (a b y z : List 
 
 -- what is written of a slice is a slice of its content, where its sizes have room in their fields
 abbrev pub WrittenSlice : Type 0
-WrittenSlice = (h : Header) (content : Content) (mode : ℕ → ℕ → ℕ) (slice : ℕ) → h.run_mode ≡ 0 → slice < 2 ^ 16 → IsWritable h content mode slice → IsTrue (slice_fits h content mode slice)
-    → IsSlice h content slice (slice_bytes h content mode slice)
+WrittenSlice = (h : Header) (content : Content) (mode : ℕ → ℕ → ℕ) (filler : ℕ → ℕ) (slice : ℕ) → h.run_mode ≡ 0 → slice < 2 ^ 16 → IsWritable h content mode slice → IsTrue (slice_fits h content mode filler slice)
+    → IsSlice h content slice (slice_bytes h content mode filler slice)
 
 -- what is written of a header is a header of it
 abbrev pub WrittenHeader : Type 0
@@ -77,15 +91,15 @@ WrittenHeader = (h : Header) → IsAccepted h → HasRoom h → IsHeader h (head
 
 -- what is written of a codestream is one of its header and its content
 abbrev pub WrittenCodestream : Type 0
-WrittenCodestream = (h : Header) (content : Content) (mode : ℕ → ℕ → ℕ) → IsAccepted h → HasRoom h → IsWritableStream h content mode
-    → (h.lcod ≡ 0) ⊎ (h.lcod ≡ length (codestream_bytes h content mode)) → IsCodestream h content (codestream_bytes h content mode)
+WrittenCodestream = (h : Header) (content : Content) (mode : ℕ → ℕ → ℕ) (filler : ℕ → ℕ) → IsAccepted h → HasRoom h → IsWritableStream h content mode filler
+    → (h.lcod ≡ 0) ⊎ (h.lcod ≡ length (codestream_bytes h content mode filler)) → IsCodestream h content (codestream_bytes h content mode filler)
 
 -- what is written are bytes, whatever the content
 abbrev pub WrittenBytes : Type 0
-WrittenBytes = (h : Header) (content : Content) (mode : ℕ → ℕ → ℕ) → AreBytes (codestream_bytes h content mode)
+WrittenBytes = (h : Header) (content : Content) (mode : ℕ → ℕ → ℕ) (filler : ℕ → ℕ) → AreBytes (codestream_bytes h content mode filler)
 
 -- what was written of a slice is read as its content alone, whatever follows it
 abbrev pub SliceReadAgain : Type 0
-SliceReadAgain = (h : Header) (content other : Content) (mode : ℕ → ℕ → ℕ) (slice : ℕ) (bytes y z : List ℕ) → h.run_mode ≡ 0 → h.nly ≤ h.nlx → slice < 2 ^ 16
-    → IsWritable h content mode slice → IsTrue (slice_fits h content mode slice)
-    → IsSlice h other slice bytes → slice_bytes h content mode slice ++ y ≡ bytes ++ z → (y ≡ z) × AllByRecursion (SamePrecinct h content other) (precincts_of h slice)
+SliceReadAgain = (h : Header) (content other : Content) (mode : ℕ → ℕ → ℕ) (filler : ℕ → ℕ) (slice : ℕ) (bytes y z : List ℕ) → h.run_mode ≡ 0 → h.nly ≤ h.nlx → slice < 2 ^ 16
+    → IsWritable h content mode slice → IsTrue (slice_fits h content mode filler slice)
+    → IsSlice h other slice bytes → slice_bytes h content mode filler slice ++ y ≡ bytes ++ z → (y ≡ z) × AllByRecursion (SamePrecinct h content other) (precincts_of h slice)

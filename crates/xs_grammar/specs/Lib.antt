@@ -1,4 +1,3 @@
-pub mod Geometry
 pub mod Packet
 pub mod Precinct
 pub mod Slice

@@ -3,7 +3,7 @@ use Rattle.std.specs.Prelude.{◌≡◌, ℕ, Bool, if◌then◌else◌, List, [
 use Rattle.std.specs.Bool.{MatchBool}
 use Rattle.std.specs.List.{flat_map}
 use Rattle.xs_params.specs.declared.header.Header.{Header}
-use Rattle.xs_lists.specs.Bits.{bits_of_bytes, bits_of_fields, HaveRoom, bit_of}
+use Rattle.xs_lists.specs.Bits.{bits_of_bytes, bits_of_fields, FieldsFit, bit_of}
 use Rattle.xs_lists.specs.Spelling.{BeginsAs, SpellsEach, SpellsBits, SpellsPadded}
 use Rattle.xs_spelling.specs.Counts.{Line, flag_bits, SpellsCounts, SpellsRawCounts}
 use Rattle.xs_spelling.specs.Data.{SpellsData, sign_bits}
@@ -34,7 +34,7 @@ pub record IsPacket (h : Header) (bands : List ℕ) (line : ℕ → Line) (bytes
   pub joined : bytes ≡ head ++ (significance ++ (counts ++ (planes ++ signs)))
   -- the size of the signs is stated, but has no effect where they do not stand apart
   pub stated : ℕ
-  pub room : HaveRoom (packet_fields h.long_heads raw (length planes) (length counts) stated)
+  pub room : FieldsFit (packet_fields h.long_heads raw (length planes) (length counts) stated)
   pub headed : bits_of_bytes head ≡ bits_of_fields (packet_fields h.long_heads raw (length planes) (length counts) stated)
   -- by band and significance group
   pub flag : ℕ → ℕ → ℕ

@@ -1,12 +1,12 @@
 -- A precinct, and the content that a codestream spells: 'Slice, precinct and packet', and the predictor of 'Bit-plane counts'.
-use Rattle.std.specs.Prelude.{◌≡◌, ℕ, ◌-◌, ◌*◌, ◌/◌, ◌%◌, max, Bool, nat_eq, not, ◌&&◌, if◌then◌else◌, ℤ, List, ◌∷◌, ◌++◌, length, map, slice_index_or}
+use Rattle.std.specs.Prelude.{◌≡◌, ℕ, ◌-◌, ◌*◌, ◌/◌, ◌%◌, Bool, nat_eq, not, ◌&&◌, if◌then◌else◌, ℤ, List, ◌∷◌, ◌++◌, length, map, slice_index_or}
 use Rattle.xs_params.specs.declared.header.Header.{Header}
 use Rattle.xs_layout.specs.declared.Weight.{Weight}
-use Rattle.xs_lists.specs.Bits.{bits_of_fields, HaveRoom}
+use Rattle.xs_lists.specs.Bits.{bits_of_fields, FieldsFit}
 use Rattle.xs_lists.specs.Spelling.{upto, BeginsAs, SpellsEach, SpellsPadded}
 use Rattle.xs_layout.specs.Geometry.{groups_of, PacketPlace}
-use Rattle.xs_grammar.specs.Geometry.{bands_of, band_width_of, precinct_lines, packet_bands, packets_of}
-use Rattle.xs_spelling.specs.Counts.{Line, predicts_above}
+use Rattle.xs_params.specs.Geometry.{bands_of, band_width_of, precinct_lines, packet_bands, packets_of}
+use Rattle.xs_spelling.specs.Counts.{Line, predicts_above, predicted}
 use Rattle.xs_layout.specs.Weighting.{truncation_of}
 use Rattle.xs_grammar.specs.Packet.{IsPacket}
 
@@ -41,7 +41,7 @@ line_truncation h content band line = truncation_of (content.q (precinct_of h ba
 abbrev pub prediction_of : Header → Content → ℕ → ℕ → ℕ → ℕ → ℕ
 prediction_of h content mode band line group =
     if predicts_above mode && not (is_first_line h band line)
-    then max (max (content.count band (line - 1) group) (line_truncation h content band (line - 1))) (line_truncation h content band line)
+    then predicted (content.count band (line - 1) group) (line_truncation h content band (line - 1)) (line_truncation h content band line)
     else line_truncation h content band line
 
 -- a line of a band as a packet codes it
@@ -70,6 +70,6 @@ pub record IsPrecinct (h : Header) (content : Content) (precinct : ℕ) (bytes :
   pub body : List ℕ
   pub joined : bytes ≡ head ++ body
   pub mode : ℕ → ℕ
-  pub room : HaveRoom (precinct_fields h content precinct (length body) mode)
+  pub room : FieldsFit (precinct_fields h content precinct (length body) mode)
   pub headed : SpellsPadded head (bits_of_fields (precinct_fields h content precinct (length body) mode))
   pub filled : BeginsAs (SpellsEach (SpellsPacket h content mode) (packets_of h precinct)) body

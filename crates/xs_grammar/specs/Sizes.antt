@@ -7,7 +7,7 @@ use Rattle.xs_params.specs.declared.header.Header.{Header}
 use Rattle.xs_spelling.specs.Counts.{Line, flag_bits}
 use Rattle.xs_spelling.specs.Data.{sign_bits}
 use Rattle.xs_spelling.specs.Written.{written_flag, line_count_bits, line_data_bits}
-use Rattle.xs_grammar.specs.Geometry.{bands_of, packet_bands, packets_of, precincts_of}
+use Rattle.xs_params.specs.Geometry.{bands_of, packet_bands, packets_of, precincts_of}
 use Rattle.xs_grammar.specs.Precinct.{Content}
 use Rattle.xs_grammar.specs.Coded.{packet_line, slice_bytes}
 
@@ -35,6 +35,7 @@ precinct_size h content mode precinct = bytes_for (40 + 2 * bands_of h) + sum_by
 abbrev pub slice_size : Header → Content → (ℕ → ℕ → ℕ) → ℕ → ℕ
 slice_size h content mode slice = 6 + sum_by (precinct_size h content mode) (precincts_of h slice)
 
--- the size of a slice is that of what is written of it
+-- the size of a slice is that of what is written of it, without its filler
 abbrev pub SizeOfSlice : Type 0
-SizeOfSlice = (h : Header) (content : Content) (mode : ℕ → ℕ → ℕ) (slice : ℕ) → length (slice_bytes h content mode slice) ≡ slice_size h content mode slice
+SizeOfSlice = (h : Header) (content : Content) (mode : ℕ → ℕ → ℕ) (filler : ℕ → ℕ) (slice : ℕ)
+    → length (slice_bytes h content mode filler slice) ≡ slice_size h content mode slice + sum_by filler (precincts_of h slice)

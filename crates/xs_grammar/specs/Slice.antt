@@ -1,19 +1,12 @@
 -- A slice: 'Slice, precinct and packet', and what is sent of the last one: 'Codestream layout'.
-use Rattle.std.specs.Prelude.{◌≡◌, ℕ, ◌+◌, ◌<◌, ◌^◌, nat_eq, List, [], ◌∷◌, ◌++◌}
+use Rattle.std.specs.Prelude.{◌≡◌, ℕ, ◌+◌, ◌<◌, ◌^◌, nat_eq, List, ◌∷◌, ◌++◌}
 use Rattle.std.specs.Bool.{MatchBool}
 use Rattle.std.specs.Int.{to_be_bytes, w16}
 use Rattle.xs_params.specs.declared.header.Header.{Header}
 use Rattle.xs_lists.specs.Spelling.{FirstAre, SpellsEach}
-use Rattle.xs_grammar.specs.Geometry.{slice_count, precincts_of}
+use Rattle.xs_params.specs.Geometry.{slice_count, precincts_of}
+use Rattle.xs_params.specs.Markers.{slh, eoc}
 use Rattle.xs_grammar.specs.Precinct.{Content, IsPrecinct}
-
--- the marker that begins a slice
-abbrev pub slh : List ℕ
-slh = 0xff ∷ 0x20 ∷ []
-
--- the marker that ends a codestream
-abbrev pub eoc : List ℕ
-eoc = 0xff ∷ 0x11 ∷ []
 
 -- the slice header: its marker, its length 4, and the slice's index
 abbrev pub slice_head : ℕ → List ℕ

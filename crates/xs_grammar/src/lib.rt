@@ -2,8 +2,7 @@
 //! of them.
 #![tactic(auto)]
 
-ghost use Rattle.xs_grammar.specs.Laws.{OneCodestream, OneHeader, OnePacket, OneSlice, SliceIsLocal, SliceReadAgain};
-ghost use Rattle.xs_grammar.specs.Laws.{WrittenBytes, WrittenCodestream, WrittenHeader, WrittenSlice};
+ghost use Rattle.xs_grammar.specs.Laws.{OneCodestream, OneHeader, OnePacket, OneSlice, PrecinctIsLocal, SliceIsLocal, SliceReadAgain, WrittenBytes, WrittenCodestream, WrittenHeader, WrittenSlice};
 ghost use Rattle.xs_grammar.specs.Sizes.{SizeOfSlice};
 
 /// The bytes of a packet are of one set of lines, by what is known before, whatever follows them.
@@ -14,6 +13,12 @@ pub fn one_packet()
 /// The bytes of a slice are of one content, whatever follows them.
 pub fn one_slice()
     ensures { OneSlice }
+{}
+
+/// A precinct speaks of its own part of the content, and of what stands before it in its slice.
+#[tactic(auto, using(crate::proofs::Local::precinct_is_local))]
+pub fn precinct_is_local()
+    ensures { PrecinctIsLocal }
 {}
 
 /// A slice speaks of its own part of the content alone.

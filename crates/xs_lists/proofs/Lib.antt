@@ -6,4 +6,6 @@ pub mod FieldBits
 pub mod Packing
 pub mod Bitwise
 pub mod Listing
+pub mod Ranges
+pub mod Puts
 mod FirstRows
