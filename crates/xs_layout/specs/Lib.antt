@@ -1,3 +1,4 @@
+pub mod Limits
 pub mod Geometry
 pub mod Weighting
 pub mod Candidates

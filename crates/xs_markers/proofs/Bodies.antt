@@ -1,6 +1,7 @@
 -- The fields of the segments can be written.
 use Rattle.std.proofs.Common.{◌≡◌, ℕ, ◌+◌, ◌*◌, ◌/◌, ◌^◌, ◌<◌, ◌≤◌, List, [], ◌∷◌, length, refl, sym, ap, subst, ◌∙◌, arith}
-use Rattle.std.specs.Prelude.{Bool, true, false, ◌⊎◌}
+use Rattle.std.specs.Prelude.{Bool, true, false, nat_eq, if◌then◌else◌}
+use Rattle.xs_layout.specs.Limits.{IsDepth, fq_of}
 use Rattle.std.specs.List.{flat_map}
 use Rattle.xs_layout.specs.declared.Weight.{Weight}
 use Rattle.xs_layout.specs.declared.Format.{Format}
@@ -11,7 +12,8 @@ use Rattle.xs_layout.specs.Geometry.{components_of, sampling_of}
 use Rattle.xs_lists.specs.Bits.{bit_of, bytes_for}
 use Rattle.xs_lists.specs.Spelling.{upto}
 use Rattle.xs_params.specs.declared.header.Header.{Header}
-use Rattle.xs_grammar.specs.Header.{IsAccepted, quant_code, picture_fields, component_fields, weight_fields}
+use Rattle.xs_grammar.specs.Header.{quant_code, picture_fields, component_fields, weight_fields}
+use Rattle.xs_params.specs.Accepted.{IsAccepted}
 use Rattle.xs_grammar.specs.Coded.{field_bytes}
 use Rattle.xs_grammar.proofs.Coded.{widths}
 use Rattle.xs_grammar.proofs.CodedStream.{length-field_bytes}
@@ -32,6 +34,13 @@ format_room Mono = omega arith
 format_room C422 = omega arith
 format_room C444 = omega arith
 
+fq_room : (bw : ℕ) → fq_of bw < 2 ^ 4
+fq_room bw = go (nat_eq bw 18)
+  where
+    go : (t : Bool) → (if t then 6 else 8) < 2 ^ 4
+    go true = omega arith
+    go false = omega arith
+
 pub picture_body : (h : Header) → IsAccepted h → h.lcod < 2 ^ 32 → h.hsl < 2 ^ 16 → IsBody (picture_fields h 0 0 0)
 picture_body h p lcod hsl =
     let size : length (field_bytes (picture_fields h 0 0 0)) ≡ 24 = length-field_bytes (picture_fields h 0 0 0) in
@@ -40,14 +49,15 @@ picture_body h p lcod hsl =
           omega (
             arith,
             lcod,
-            p.width,
-            p.height,
+            p.geometry.shape.width,
+            p.geometry.shape.height,
             hsl,
             format_room h.shape.format,
             p.bits,
+            fq_room h.bw,
             bit_room h.colour (2 ^ 4) (omega arith),
-            p.nlx,
-            p.nly,
+            p.geometry.nlx,
+            p.geometry.nly,
             bit_room h.long_heads (2 ^ 1) (omega arith),
             quant_room h.quant,
             bit_room h.signs_apart (2 ^ 2) (omega arith),
@@ -71,14 +81,14 @@ components_size Mono depth = omega arith
 components_size C422 depth = omega arith
 components_size C444 depth = omega arith
 
-depth_room : (depth : ℕ) → (depth ≡ 8) ⊎ (depth ≡ 10) ⊎ (depth ≡ 12) → depth < 2 ^ 8
+depth_room : (depth : ℕ) → IsDepth depth → depth < 2 ^ 8
 depth_room depth h = omega (arith, h)
 
 pub component_body : (h : Header) → IsAccepted h → IsBody (component_fields h)
 component_body h p =
     let size : length (field_bytes (component_fields h)) ≡ (widths (component_fields h) + 7) / 8 = length-field_bytes (component_fields h) in
     record {
-      room = components_room h.shape.format h.shape.depth (depth_room h.shape.depth p.depth);
+      room = components_room h.shape.format h.shape.depth (depth_room h.shape.depth p.geometry.shape.depth);
       short = omega (arith, size, components_size h.shape.format h.shape.depth);
     }
 
@@ -99,5 +109,5 @@ most_bands C444 nlx nly p q = omega (arith, p, q)
 pub weight_body : (h : Header) → IsAccepted h → AreFields (weight_fields h) → IsBody (weight_fields h)
 weight_body h p room =
     let size : length (field_bytes (weight_fields h)) ≡ (16 * length h.weights + 7) / 8 = length-field_bytes (weight_fields h) ∙ ap bytes_for (weights_widths h.weights) in
-    let bands : length h.weights ≤ 30 = subst (λ n. n ≤ 30) (sym p.weights) (most_bands h.shape.format h.nlx h.nly (omega (arith, p.nlx)) (omega (arith, p.nly))) in
+    let bands : length h.weights ≤ 30 = subst (λ n. n ≤ 30) (sym p.weights) (most_bands h.shape.format h.nlx h.nly (omega (arith, p.geometry.nlx)) (omega (arith, p.geometry.nly))) in
     record { room = room; short = omega (arith, size, bands) }

@@ -1,10 +1,10 @@
 -- The bits of the bodies of a header's segments are those of the fields that are read.
 use Rattle.std.proofs.Common.{◌≡◌, ℕ, ◌+◌, List, [], ◌∷◌, ◌++◌, length, drop, sym, ap, ◌∙◌, arith, append_assoc, append-nil}
 use Rattle.std.proofs.lemmas.List.{drop_all}
-use Rattle.xs_lists.specs.Bits.{bits_of, bits_of_bytes, bits_of_fields, HaveRoom}
+use Rattle.xs_lists.specs.Bits.{bits_of, bits_of_bytes, bits_of_fields, FieldsFit}
 use Rattle.xs_lists.specs.Fields.{field, half_word_at, word_at}
 use Rattle.xs_lists.proofs.FieldBits.{bits_of-field, bits_of-low}
-use Rattle.xs_markers.specs.Reading.{byte_at}
+use Rattle.xs_markers.specs.Values.{byte_at}
 use Rattle.xs_markers.proofs.Cut.{IsBytes, word_here, half_word_here, byte_here, word_small, half_word_small}
 
 -- all fields of a picture header, those too that have no effect
@@ -88,7 +88,7 @@ picture_bits body small size =
     ∙ before 8 (byte_at body 18) _ _ (byte_here body 19 (omega (arith, size))
     ∙ before 8 (byte_at body 19) _ _ (picture_end body size)))))))))))
 
-pub picture_room : (body : List ℕ) → IsBytes body → length body ≡ 24 → HaveRoom (picture_read body)
+pub picture_room : (body : List ℕ) → IsBytes body → length body ≡ 24 → FieldsFit (picture_read body)
 picture_room body small size =
     omega (
       arith,
@@ -114,5 +114,5 @@ component_bits body size =
     ∙ before 8 (byte_at body 0) _ _ (byte_here body 1 (omega (arith, size)) ∙ nibbles (byte_at body 1) (bits_of_bytes (drop 2 body))
     ∙ before 4 (field 4 4 (byte_at body 1)) _ _ (before 4 (field 4 0 (byte_at body 1)) _ _ none))
 
-pub component_room : (body : List ℕ) → IsBytes body → HaveRoom (component_read body)
+pub component_room : (body : List ℕ) → IsBytes body → FieldsFit (component_read body)
 component_room body small = omega (arith, small 0, small 1)

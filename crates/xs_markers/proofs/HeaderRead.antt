@@ -3,20 +3,21 @@ use Rattle.std.specs.Prelude.{◌⊎◌}
 use Rattle.std.proofs.Common.{◌≡◌, ℕ, ◌+◌, ◌-◌, ◌*◌, ◌<◌, ◌≤◌, List, [], ◌∷◌, ◌++◌, length, take, drop, refl, sym, ap, subst, ◌∙◌, arith, append-nil, inl, inr}
 use Rattle.std.proofs.lemmas.List.{take-append-drop, length-take}
 use Rattle.std.specs.List.{flat_map}
-use Rattle.xs_lists.specs.Bits.{bit_of, bits_of_fields, HaveRoom}
+use Rattle.xs_lists.specs.Bits.{bit_of, bits_of_fields, FieldsFit}
 use Rattle.xs_lists.specs.Fields.{field, has_bit, half_word_at, word_at}
 use Rattle.xs_lists.specs.Spelling.{BeginsWith}
 use Rattle.xs_lists.proofs.FieldBits.{bit_of-eq}
 use Rattle.xs_layout.specs.declared.Weight.{Weight}
-use Rattle.xs_grammar.specs.Header.{Segment, segment_bytes, soc, cap_code, pih_code, cdt_code, wgt_code, picture_fields, component_fields}
-use Rattle.xs_grammar.specs.Slice.{slh}
+use Rattle.xs_grammar.specs.Header.{Segment, segment_bytes, cap_code, pih_code, cdt_code, wgt_code, picture_fields, component_fields}
+use Rattle.xs_params.specs.Markers.{soc, slh}
 use Rattle.xs_decoding.specs.Built.{IsBuiltHeader}
-use Rattle.xs_markers.specs.Reading.{soc_code, slh_code, body_at, byte_at, picture_of, picture_at, band_count, table_size, end_of, weights_of, header_of}
+use Rattle.xs_markers.specs.Reading.{soc_code, slh_code, segment_body_at, picture_fields_of, picture_at, bands_of_fields, table_size, end_of, weights_of, header_of_fields}
+use Rattle.xs_markers.specs.Values.{byte_at}
 use Rattle.xs_markers.proofs.Cut.{IsBytes, piece_bytes, piece_size, half_word_bytes}
 use Rattle.xs_markers.proofs.FieldsRead.{picture_read, picture_bits, picture_room, component_read, component_bits, component_room}
 use Rattle.xs_markers.proofs.Weights.{weights_count, weights_bits, weights_room}
 use Rattle.xs_markers.proofs.Segments.{cut_on, join, segment_here}
-use Rattle.xs_markers.proofs.Accepted.{Taken, TakenComponent, accepted_fields}
+use Rattle.xs_markers.proofs.Accepted.{Taken, TakenComponent, taken_fields, taken_component, rules_accept}
 use Rattle.xs_markers.proofs.Unrefused.{IsUnrefused}
 
 -- the fields of a picture header, as numbers
@@ -30,8 +31,8 @@ same_listed : (lcod profile level wf hf cw hsl nc ng ss bw fq br fslc ppoc cpih 
     → listed lcod profile level wf hf 0 hsl 1 4 8 bw fq 4 0 0 0 nlx nly lh rl 0 0 rm ≡ listed lcod profile level wf hf cw hsl nc ng ss bw fq br fslc ppoc cpih nlx nly long rl qpih fs rm
 same_listed lcod profile level wf hf cw hsl nc ng ss bw fq br fslc ppoc cpih nlx nly lh long rl qpih fs rm a b c d e f g h i j k = cc (a, b, c, d, e, f, g, h, i, j, k)
 
-picture_same : (body : List ℕ) (weights : List Weight) → Taken (picture_of body)
-    → picture_fields (header_of (picture_of body) weights) (half_word_at body 4) (half_word_at body 6) (field 1 6 (byte_at body 23)) ≡ picture_read body
+picture_same : (body : List ℕ) (weights : List Weight) → Taken (picture_fields_of body)
+    → picture_fields (header_of_fields (picture_fields_of body) weights) (half_word_at body 4) (half_word_at body 6) (field 1 6 (byte_at body 23)) ≡ picture_read body
 unfolding listed
 picture_same body weights t =
     let small : field 1 7 (byte_at body 23) < 2 = omega arith in
@@ -47,10 +48,10 @@ component_same body t =
     ∙ ap (λ n. (8, byte_at body 0) ∷ (4, field 4 4 (byte_at body 1)) ∷ (4, n) ∷ []) (sym t.sy)
 
 -- the header that is read, with its segments
-pub header_read : (bytes : List ℕ) → IsBytes bytes → IsUnrefused bytes → IsBuiltHeader (header_of (picture_at bytes) (weights_of (body_at bytes 40 (table_size (picture_at bytes))))) (take (end_of (picture_at bytes)) bytes)
+pub header_read : (bytes : List ℕ) → IsBytes bytes → IsUnrefused bytes → IsBuiltHeader (header_of_fields (picture_at bytes) (weights_of (segment_body_at bytes 40 (table_size (picture_at bytes))))) (take (end_of (picture_at bytes)) bytes)
 header_read bytes small u = record {
   spelled = record {
-    accepted = accepted_fields (picture_of picture) (weights_of weights) u.picture (omega (arith, weights_count weights, weights_size));
+    accepted = rules_accept (picture_fields_of picture) (weights_of weights) u.picture (omega (arith, weights_count weights, weights_size));
     segments = segment cap_code [] ∷ segment pih_code picture ∷ segment cdt_code component ∷ segment wgt_code weights ∷ [];
     joined = joined;
     short = (omega arith, (omega (arith, picture_size), (omega (arith, component_size), (omega (arith, weights_size, few), tt))));
@@ -64,12 +65,12 @@ header_read bytes small u = record {
       order = inl refl;
       picture_is = record {
         coded = refl;
-        room = subst HaveRoom (sym picture_is) (picture_room picture picture_small picture_size);
+        room = subst FieldsFit (sym picture_is) (picture_room picture picture_small picture_size);
         spelled = picture_bits picture picture_small picture_size ∙ ap bits_of_fields (sym picture_is);
       };
       component_is = record {
         coded = refl;
-        room = subst HaveRoom (sym component_is) (component_room component (piece_bytes 2 38 bytes small (omega (arith, wgt_whole))));
+        room = subst FieldsFit (sym component_is) (component_room component (piece_bytes 2 38 bytes small (omega (arith, wgt_whole))));
         spelled = component_bits component component_size ∙ ap bits_of_fields (sym component_is);
       };
       weight_is = record {
@@ -79,29 +80,32 @@ header_read bytes small u = record {
       };
     };
   };
-  values = record { format = refl; depth = refl; colour = refl; quant = refl; signs = refl; runs = u.picture.rm };
+  values = record { format = refl; depth = refl; colour = refl; quant = refl; signs = refl; runs = taken.rm };
   rest = segment pih_code picture ∷ segment cdt_code component ∷ segment wgt_code weights ∷ [];
   capabilities = refl;
   order = refl;
 }
   where
+    taken : Taken (picture_at bytes)
+    taken = taken_fields (picture_at bytes) u.picture
+
     segment : ℕ → List ℕ → Segment
     segment code body = record { code = code; body = body }
 
     picture : List ℕ
-    picture = body_at bytes 6 26
+    picture = segment_body_at bytes 6 26
 
     component : List ℕ
-    component = body_at bytes 34 4
+    component = segment_body_at bytes 34 4
 
     bands : ℕ
-    bands = band_count (picture_at bytes)
+    bands = bands_of_fields (picture_at bytes)
 
     few : bands ≤ 10
-    few = let across = u.picture.nlx in let down = u.picture.nly in omega (arith, across, down)
+    few = omega (arith, taken.nlx, taken.nly)
 
     weights : List ℕ
-    weights = body_at bytes 40 (2 + 2 * bands)
+    weights = segment_body_at bytes 40 (2 + 2 * bands)
 
     wgt_whole : 44 + 2 * bands ≤ length bytes
     wgt_whole = let whole : 40 + 2 + (2 + 2 * bands) ≤ length bytes = u.wgt.whole in omega (arith, whole)
@@ -118,11 +122,11 @@ header_read bytes small u = record {
     picture_small : IsBytes picture
     picture_small = piece_bytes 24 10 bytes small (omega (arith, wgt_whole))
 
-    picture_is : picture_fields (header_of (picture_of picture) (weights_of weights)) (half_word_at picture 4) (half_word_at picture 6) (field 1 6 (byte_at picture 23)) ≡ picture_read picture
-    picture_is = picture_same picture (weights_of weights) u.picture
+    picture_is : picture_fields (header_of_fields (picture_fields_of picture) (weights_of weights)) (half_word_at picture 4) (half_word_at picture 6) (field 1 6 (byte_at picture 23)) ≡ picture_read picture
+    picture_is = picture_same picture (weights_of weights) taken
 
-    component_is : component_fields (header_of (picture_of picture) (weights_of weights)) ≡ component_read component
-    component_is = component_same component u.component
+    component_is : component_fields (header_of_fields (picture_fields_of picture) (weights_of weights)) ≡ component_read component
+    component_is = component_same component (taken_component component u.component)
 
     joined : take (44 + 2 * bands) bytes ≡ soc ++ flat_map segment_bytes (segment cap_code [] ∷ segment pih_code picture ∷ segment cdt_code component ∷ segment wgt_code weights ∷ [])
     joined =
@@ -135,12 +139,11 @@ header_read bytes small u = record {
         (segment_here bytes 40 wgt_code (2 + 2 * bands) small (omega arith) u.wgt ∙ sym (append-nil (segment_bytes (segment wgt_code weights)))))))
 
 -- its table of weights
-pub few_bytes : (bytes : List ℕ) → IsUnrefused bytes → length (body_at bytes 40 (table_size (picture_at bytes))) ≤ 20
+pub few_bytes : (bytes : List ℕ) → IsUnrefused bytes → length (segment_body_at bytes 40 (table_size (picture_at bytes))) ≤ 20
 few_bytes bytes u =
-    let across = u.picture.nlx in
-    let down = u.picture.nly in
-    let most : 2 + 2 * band_count (picture_at bytes) - 2 ≤ 20 = omega (arith, across, down) in
-    omega (arith, most, length-take (2 + 2 * band_count (picture_at bytes) - 2) (drop 44 bytes))
+    let taken = taken_fields (picture_at bytes) u.picture in
+    let most : 2 + 2 * bands_of_fields (picture_at bytes) - 2 ≤ 20 = omega (arith, taken.nlx, taken.nly) in
+    omega (arith, most, length-take (2 + 2 * bands_of_fields (picture_at bytes) - 2) (drop 44 bytes))
 
 -- and what follows it
 pub follows : (bytes : List ℕ) → IsBytes bytes → IsUnrefused bytes → (end_of (picture_at bytes) ≡ length bytes) ⊎ BeginsWith (drop (end_of (picture_at bytes)) bytes) slh

@@ -1,26 +1,29 @@
 -- Nothing is refused of a header that is read.
 use Rattle.std.specs.Prelude.{◌⊎◌}
-use Rattle.std.proofs.Common.{◌≡◌, ℕ, ◌+◌, ◌*◌, ◌^◌, ◌≤◌, min, max, List, [], ◌∷◌, ◌++◌, map, length, take, drop, get_or, refl, sym, ap, subst, ◌∙◌, arith, append_assoc, length-append, length-drop, inl, inr}
+use Rattle.std.proofs.Common.{◌≡◌, ℕ, ◌+◌, ◌*◌, ◌≤◌, min, max, List, [], ◌∷◌, ◌++◌, map, length, take, drop, get_or, refl, sym, ap, subst, ◌∙◌, arith, append_assoc, length-append, length-drop, inl, inr}
 use Rattle.std.specs.Int.{from_be_bytes, w16}
 use Rattle.std.specs.List.{flat_map}
 use Rattle.std.proofs.lemmas.List.{take-append-drop, length-take-le}
-use Rattle.xs_lists.specs.Bits.{bit_of, bits_of_fields, HaveRoom}
+use Rattle.xs_lists.specs.Bits.{bit_of, bits_of_fields, FieldsFit}
 use Rattle.xs_lists.specs.Fields.{field, half_word_at}
 use Rattle.xs_lists.specs.Spelling.{BeginsWith}
 use Rattle.xs_lists.proofs.Bits.{length-bits_of_bytes}
 use Rattle.xs_lists.proofs.Cut.{fields_agree}
 use Rattle.xs_layout.specs.Geometry.{components_of, slice_count_of}
+use Rattle.xs_layout.specs.Limits.{least_width, most_width, least_height, most_height, most_area, IsPrecision, fq_of, most_across, most_down, most_slices}
 use Rattle.xs_params.specs.declared.header.Header.{Header}
-use Rattle.xs_grammar.specs.Header.{Segment, segment_bytes, soc, cap_code, pih_code, cdt_code, wgt_code, quant_code, picture_fields, component_fields, weight_fields, IsAccepted, IsSegment, AreSegmentsOf, IsHeaderFront}
-use Rattle.xs_grammar.specs.Slice.{slh}
+use Rattle.xs_grammar.specs.Header.{Segment, segment_bytes, cap_code, pih_code, cdt_code, wgt_code, quant_code, picture_fields, component_fields, weight_fields, IsSegment, AreSegmentsOf, IsHeaderFront}
+use Rattle.xs_params.specs.Markers.{soc, slh}
+use Rattle.xs_params.specs.Accepted.{IsAccepted, IsGeometry}
 use Rattle.xs_grammar.proofs.Coded.{length-widths}
 use Rattle.xs_decoding.specs.Built.{HasBuiltValues, IsBuiltHeader}
-use Rattle.xs_markers.specs.Reading.{slh_code, body_at, byte_at, picture_of, picture_at, band_count, end_of}
+use Rattle.xs_markers.specs.Reading.{slh_code, segment_body_at, picture_fields_of, picture_at, bands_of_fields, end_of}
+use Rattle.xs_markers.specs.Values.{byte_at}
 use Rattle.xs_markers.proofs.Bodies.{fields_of, weights_widths}
-use Rattle.xs_markers.proofs.Cut.{IsBytes, piece_bytes, half_word_small}
+use Rattle.xs_markers.proofs.Cut.{IsBytes, piece_bytes}
 use Rattle.xs_markers.proofs.FieldsRead.{picture_read, picture_bits, picture_room, component_read, component_bits, component_room}
 use Rattle.xs_markers.proofs.Segments.{IsCodeAt, IsSegmentAt, segment_seen}
-use Rattle.xs_markers.proofs.Accepted.{Taken, TakenComponent, slices_same}
+use Rattle.xs_markers.proofs.Accepted.{Taken, TakenComponent, fields_taken, component_taken, slices_same}
 use Rattle.xs_markers.proofs.Unrefused.{IsUnrefused}
 
 abbrev segment : ℕ → List ℕ → Segment
@@ -92,7 +95,7 @@ values_seen h profile level raw_line x small size is =
 
 -- and so the number of bands
 bands_seen : (h : Header) (profile level raw_line : ℕ) (x : List ℕ) → IsBytes x → length x ≡ 24
-    → IsSegment pih_code (picture_fields h profile level raw_line) (segment pih_code x) → 2 * h.nly + h.nlx + 1 ≡ band_count (picture_of x)
+    → IsSegment pih_code (picture_fields h profile level raw_line) (segment pih_code x) → 2 * h.nly + h.nlx + 1 ≡ bands_of_fields (picture_fields_of x)
 bands_seen h profile level raw_line x small size is =
     let same = values_seen h profile level raw_line x small size is in
     let nlx : h.nlx ≡ field 4 4 (byte_at x 22) = ap (λ l. get_or l 16 0) same in
@@ -100,34 +103,37 @@ bands_seen h profile level raw_line x small size is =
     ap (λ n. 2 * n + h.nlx + 1) nly ∙ ap (λ n. 2 * field 4 0 (byte_at x 22) + n + 1) nlx
 
 picture_taken : (h : Header) (profile level raw_line : ℕ) (x : List ℕ) → IsBytes x → length x ≡ 24 → IsAccepted h → HasBuiltValues h
-    → IsSegment pih_code (picture_fields h profile level raw_line) (segment pih_code x) → Taken (picture_of x)
+    → IsSegment pih_code (picture_fields h profile level raw_line) (segment pih_code x) → Taken (picture_fields_of x)
 picture_taken h profile level raw_line x small size accepted values is = record {
-  wf = subst (λ n. (32 ≤ n) × (n ≤ 8192)) width accepted.width;
-  hf = subst (λ n. (4 ≤ n) × (n ≤ 8192)) height accepted.height;
-  area = subst (λ n. n ≤ 2 ^ 24) (ap (λ n. n * h.shape.height) width ∙ ap (λ n. half_word_at x 8 * n) height) accepted.area;
+  wf = subst (λ n. (least_width ≤ n) × (n ≤ most_width)) width g.shape.width;
+  hf = subst (λ n. (least_height ≤ n) × (n ≤ most_height)) height g.shape.height;
+  area = subst (λ n. n ≤ most_area) (ap (λ n. n * h.shape.height) width ∙ ap (λ n. half_word_at x 8 * n) height) g.shape.area;
   cw = sym (at 5);
-  hsl = (subst (λ n. 1 ≤ n) hsl accepted.hsl, omega (arith, half_word_small x 14 small (omega (arith, size))));
+  hsl = subst (λ n. 1 ≤ n) hsl g.hsl;
   nc = sym components ∙ ap components_of values.format;
   ng = sym (at 8);
   ss = sym (at 9);
-  bw = sym bw ∙ accepted.bits.0;
-  fq = sym fq ∙ accepted.bits.1;
+  bw = subst IsPrecision bw accepted.bits.0;
+  fq = sym fq ∙ accepted.bits.1 ∙ ap fq_of bw;
   br = sym (at 12);
   fslc = sym (at 13);
   ppoc = sym (at 14);
   cpih = sym colour ∙ ap bit_of values.colour;
-  nlx = subst (λ n. (1 ≤ n) × (n ≤ 5)) nlx accepted.nlx;
-  nly = subst (λ n. n ≤ min 2 (field 4 4 (byte_at x 22))) nly (subst (λ n. h.nly ≤ min 2 n) nlx accepted.nly);
+  nlx = subst (λ n. (1 ≤ n) × (n ≤ most_across)) nlx g.nlx;
+  nly = subst (λ n. n ≤ min most_down (field 4 4 (byte_at x 22))) nly (subst (λ n. h.nly ≤ min most_down n) nlx g.nly);
   slices =
-      subst (λ n. n ≤ 2047) (
-      slices_same h.shape.height h.nly h.hsl accepted.hsl ∙ ap (λ n. slice_count_of n h.nly (max 1 h.hsl)) height
+      subst (λ n. n ≤ most_slices) (
+      slices_same h.shape.height h.nly h.hsl g.hsl ∙ ap (λ n. slice_count_of n h.nly (max 1 h.hsl)) height
       ∙ ap (λ n. slice_count_of (half_word_at x 10) n (max 1 h.hsl)) nly ∙ ap (λ n. slice_count_of (half_word_at x 10) (field 4 0 (byte_at x 22)) (max 1 n)) hsl)
-      accepted.slices;
+      g.slices;
   qpih = sym quant ∙ ap quant_code values.quant;
   fs = sym signs ∙ ap bit_of values.signs;
   rm = sym runs ∙ values.runs;
 }
   where
+    g : IsGeometry h
+    g = accepted.geometry
+
     same : map (λ (f : ℕ × ℕ). f.1) (picture_fields h profile level raw_line) ≡ map (λ (f : ℕ × ℕ). f.1) (picture_read x)
     same = values_seen h profile level raw_line x small size is
 
@@ -175,10 +181,10 @@ picture_taken h profile level raw_line x small size accepted values is = record 
 component_is : (h : Header) → HasBuiltValues h → component_fields h ≡ (8, h.shape.depth) ∷ (4, 1) ∷ (4, 1) ∷ []
 component_is h values = ap (λ f. fields_of f h.shape.depth) values.format
 
-component_taken : (h : Header) (y : List ℕ) → IsBytes y → length y ≡ 2 → HasBuiltValues h → IsSegment cdt_code (component_fields h) (segment cdt_code y) → TakenComponent y
-component_taken h y small size values is =
+component_seen : (h : Header) (y : List ℕ) → IsBytes y → length y ≡ 2 → HasBuiltValues h → IsSegment cdt_code (component_fields h) (segment cdt_code y) → TakenComponent y
+component_seen h y small size values is =
     let fields = (8, h.shape.depth) ∷ (4, 1) ∷ (4, 1) ∷ [] in
-    let room : HaveRoom fields = subst HaveRoom (component_is h values) is.room in
+    let room : FieldsFit fields = subst FieldsFit (component_is h values) is.room in
     let same : map (λ (f : ℕ × ℕ). f.1) fields ≡ map (λ (f : ℕ × ℕ). f.1) (component_read y) =
     (fields_agree fields (component_read y) [] [] refl room (component_room y small) (ap (λ l. l ++ []) (ap bits_of_fields (sym (component_is h values)) ∙ sym is.spelled ∙ component_bits y size))).0 in
     let depth : h.shape.depth ≡ byte_at y 0 = cc same in
@@ -226,9 +232,9 @@ header_seen h bytes n small front built = record {
     start = record { there = omega (arith, total); coded = ap (λ l. from_be_bytes w16 (take 2 l)) whole };
     cap = (segment_seen bytes soc (S6 ++ (S34 ++ (S40 ++ rest))) 2 cap_code 2 [] whole refl (omega arith) refl (omega arith)).0;
     pih = pih.0;
-    picture = subst (λ b. Taken (picture_of b)) (sym pih.1) (picture_taken h said.profile said.level said.raw_line x x_small x_size accepted values said.picture);
+    picture = fields_taken (picture_at bytes) (subst (λ b. Taken (picture_fields_of b)) (sym pih.1) (picture_taken h said.profile said.level said.raw_line x x_small x_size accepted values said.picture));
     cdt = cdt.0;
-    component = subst TakenComponent (sym cdt.1) (component_taken h y (subst IsBytes cdt.1 (piece_bytes 2 38 bytes small (omega (arith, total)))) y_size values said.component);
+    component = component_taken (segment_body_at bytes 34 4) (subst TakenComponent (sym cdt.1) (component_seen h y (subst IsBytes cdt.1 (piece_bytes 2 38 bytes small (omega (arith, total)))) y_size values said.component));
     wgt =
         subst (λ b. IsSegmentAt bytes 40 wgt_code (2 + 2 * b)) bands_are
         (segment_seen bytes (soc ++ (S2 ++ (S6 ++ S34))) rest 40 wgt_code (2 + 2 * bands) z at_wgt (omega (arith, length-append x S34, x_size, y_size)) (omega arith) (omega (arith, z_size)) (omega (arith, few))).0;
@@ -271,7 +277,7 @@ header_seen h bytes n small front built = record {
     bands = 2 * h.nly + h.nlx + 1
 
     few : bands ≤ 10
-    few = let across = accepted.nlx in let down = accepted.nly in omega (arith, across, down)
+    few = omega (arith, accepted.geometry.nlx, accepted.geometry.nly)
 
     z_size : length z ≡ 2 * bands
     z_size = weights_size h z accepted values said.weight
@@ -308,14 +314,14 @@ header_seen h bytes n small front built = record {
     total : 46 ≤ length bytes
     total = omega (arith, inside, ended)
 
-    pih : IsSegmentAt bytes 6 pih_code 26 × (body_at bytes 6 26 ≡ x)
+    pih : IsSegmentAt bytes 6 pih_code 26 × (segment_body_at bytes 6 26 ≡ x)
     pih = segment_seen bytes (soc ++ S2) (S34 ++ (S40 ++ rest)) 6 pih_code 26 x whole refl (omega arith) (omega (arith, x_size)) (omega arith)
 
     x_small : IsBytes x
     x_small = subst IsBytes pih.1 (piece_bytes 24 10 bytes small (omega (arith, total)))
 
-    bands_are : bands ≡ band_count (picture_at bytes)
-    bands_are = bands_seen h said.profile said.level said.raw_line x x_small x_size said.picture ∙ ap (λ b. band_count (picture_of b)) (sym pih.1)
+    bands_are : bands ≡ bands_of_fields (picture_at bytes)
+    bands_are = bands_seen h said.profile said.level said.raw_line x x_small x_size said.picture ∙ ap (λ b. bands_of_fields (picture_fields_of b)) (sym pih.1)
 
     here : n ≡ end_of (picture_at bytes)
     here = ended ∙ ap (λ b. 44 + 2 * b) bands_are
@@ -323,7 +329,7 @@ header_seen h bytes n small front built = record {
     at_cdt : bytes ≡ (soc ++ (S2 ++ S6)) ++ (S34 ++ (S40 ++ rest))
     at_cdt = whole ∙ sym (append_assoc (soc ++ S2) S6 (S34 ++ (S40 ++ rest)))
 
-    cdt : IsSegmentAt bytes 34 cdt_code 4 × (body_at bytes 34 4 ≡ y)
+    cdt : IsSegmentAt bytes 34 cdt_code 4 × (segment_body_at bytes 34 4 ≡ y)
     cdt = segment_seen bytes (soc ++ (S2 ++ S6)) (S40 ++ rest) 34 cdt_code 4 y at_cdt (omega (arith, x_size)) (omega arith) (omega (arith, y_size)) (omega arith)
 
     at_wgt : bytes ≡ (soc ++ (S2 ++ (S6 ++ S34))) ++ (S40 ++ rest)

@@ -2,7 +2,8 @@
 use Rattle.std.proofs.Common.{◌≡◌, ℕ, List, [], ◌++◌, ap, sym, ◌∙◌, append_assoc}
 use Rattle.std.proofs.lemmas.List.{append-nil}
 use Rattle.xs_params.specs.declared.header.Header.{Header}
-use Rattle.xs_grammar.specs.Header.{soc, segment_bytes, cap_code, pih_code, cdt_code, wgt_code, picture_fields, component_fields, weight_fields}
+use Rattle.xs_grammar.specs.Header.{segment_bytes, cap_code, pih_code, cdt_code, wgt_code, picture_fields, component_fields, weight_fields}
+use Rattle.xs_params.specs.Markers.{soc}
 use Rattle.xs_grammar.specs.Coded.{field_bytes, header_bytes}
 
 five : (a s t u v : List ℕ) → (((a ++ s) ++ t) ++ u) ++ v ≡ a ++ (s ++ (t ++ (u ++ (v ++ []))))

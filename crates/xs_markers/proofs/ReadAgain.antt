@@ -3,17 +3,18 @@ use Rattle.std.specs.Prelude.{◌⊎◌}
 use Rattle.std.proofs.Common.{◌≡◌, ℕ, zero, suc, ◌*◌, ◌^◌, ◌<◌, ◌≤◌, List, [], ◌∷◌, ◌++◌, None, length, take, drop, refl, sym, ap, subst, ◌∙◌, arith, length-append, length-drop, inl, inr}
 use Rattle.std.specs.List.{AllByRecursion}
 use Rattle.std.proofs.lemmas.List.{take_at, drop_at, drop_all, take-append-drop}
-use Rattle.xs_lists.specs.Bits.{HaveRoom}
+use Rattle.xs_lists.specs.Bits.{FieldsFit}
 use Rattle.xs_lists.specs.Packing.{AreBytes, missing_bits}
 use Rattle.xs_lists.specs.Spelling.{BeginsWith}
 use Rattle.xs_lists.proofs.Cut.{all-each}
 use Rattle.xs_lists.proofs.Walk.{all-append}
 use Rattle.xs_layout.specs.declared.Weight.{Weight}
 use Rattle.xs_params.specs.declared.header.Header.{Header}
-use Rattle.xs_grammar.specs.Header.{Segment, pih_code, cdt_code, wgt_code, picture_fields, component_fields, weight_fields, IsAccepted, IsHeaderFront}
+use Rattle.xs_grammar.specs.Header.{Segment, pih_code, cdt_code, wgt_code, picture_fields, component_fields, weight_fields, IsHeaderFront}
+use Rattle.xs_params.specs.Accepted.{IsAccepted}
 use Rattle.xs_grammar.specs.Coded.{field_bytes, written_segments, header_bytes, HasRoom}
 use Rattle.xs_grammar.specs.Laws.{FollowsHeader}
-use Rattle.xs_grammar.specs.Slice.{slh}
+use Rattle.xs_params.specs.Markers.{slh}
 use Rattle.xs_grammar.proofs.Coded.{widths, fields_whole}
 use Rattle.xs_grammar.proofs.OneHeader.{one_header}
 use Rattle.xs_grammar.proofs.Sizes.{header_are}
@@ -37,7 +38,7 @@ pairs_room : (weights : List Weight) → AllByRecursion (λ (weight : Weight). w
 pairs_room [] p q = tt
 pairs_room (weight ∷ weights) p q = ((omega arith, p.0), ((omega arith, q.0), pairs_room weights p.1 q.1))
 
-have_room : (fields : List (ℕ × ℕ)) → AreFields fields → HaveRoom fields
+have_room : (fields : List (ℕ × ℕ)) → AreFields fields → FieldsFit fields
 have_room fields = all-each (λ (field : ℕ × ℕ). (field.0 ≤ 32) × (field.1 < 2 ^ field.0)) (λ (field : ℕ × ℕ). field.1 < 2 ^ field.0) fields (λ field p. p.1)
 
 whole_pairs : (n bits : ℕ) → bits ≡ 16 * n → missing_bits bits ≡ 0

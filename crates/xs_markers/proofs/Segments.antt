@@ -8,7 +8,7 @@ use Rattle.xs_lists.specs.First.{first_of, first_some}
 use Rattle.xs_lists.specs.Fields.{half_word_at}
 use Rattle.xs_faults.specs.declared.HeadFault.TheVariants.{Truncated, Marker, Length}
 use Rattle.xs_grammar.specs.Header.{segment_bytes}
-use Rattle.xs_markers.specs.Reading.{body_at, code_fault, segment_fault}
+use Rattle.xs_markers.specs.Reading.{segment_body_at, code_fault, segment_fault}
 use Rattle.xs_markers.proofs.Cut.{IsBytes, half_word_bytes, piece_size}
 use Rattle.xs_markers.proofs.Refusals.{none_first, no_row, skipped, is_equal, equal_is}
 
@@ -73,21 +73,21 @@ join a b x y p q = ap (λ l. l ++ x) p ∙ ap (λ l. b ++ l) q
 
 -- the bytes of a segment that stands at a place
 pub segment_here : (bytes : List ℕ) (place code size : ℕ) → IsBytes bytes → 2 ≤ size → IsSegmentAt bytes place code size
-    → take (2 + size) (drop place bytes) ≡ segment_bytes (record { code = code; body = body_at bytes place size })
+    → take (2 + size) (drop place bytes) ≡ segment_bytes (record { code = code; body = segment_body_at bytes place size })
 segment_here bytes place code size small counted h =
     let whole : place + 2 + size ≤ length bytes = h.whole in
     let sum : 2 + size ≡ 2 + (2 + (size - 2)) = omega (arith, counted) in
     let place_is : place + 2 + 2 ≡ place + 4 = omega arith in
-    let body_size : size ≡ length (body_at bytes place size) + 2 = omega (arith, piece_size (size - 2) (place + 4) bytes (omega (arith, whole, counted)), counted) in
+    let body_size : size ≡ length (segment_body_at bytes place size) + 2 = omega (arith, piece_size (size - 2) (place + 4) bytes (omega (arith, whole, counted)), counted) in
     ap (λ n. take n (drop place bytes)) sum ∙ cut_on 2 (2 + (size - 2)) place bytes
     ∙ join _ _ _ _ (half_word_bytes bytes place code small (omega (arith, whole)) h.coded)
     (cut_on 2 (size - 2) (place + 2) bytes
     ∙ join _ _ _ _ (half_word_bytes bytes (place + 2) size small (omega (arith, whole, counted)) h.sized) (ap (λ p. take (size - 2) (drop p bytes)) place_is)
-    ∙ ap (λ n. to_be_bytes w16 n ++ body_at bytes place size) body_size)
+    ∙ ap (λ n. to_be_bytes w16 n ++ segment_body_at bytes place size) body_size)
 
 -- a segment stands where its bytes do
 pub segment_seen : (bytes front tail : List ℕ) (place code size : ℕ) (body : List ℕ) → bytes ≡ front ++ (segment_bytes (record { code = code; body = body }) ++ tail) → length front ≡ place → code < 2 ^ 16
-    → length body + 2 ≡ size → size < 2 ^ 16 → IsSegmentAt bytes place code size × (body_at bytes place size ≡ body)
+    → length body + 2 ≡ size → size < 2 ^ 16 → IsSegmentAt bytes place code size × (segment_body_at bytes place size ≡ body)
 segment_seen bytes front tail place code size body joined at small sized short =
     let seg : List ℕ = segment_bytes (record { code = code; body = body }) in
     let here : drop place bytes ≡ seg ++ tail = ap (drop place) joined ∙ drop_at front (seg ++ tail) place at in

@@ -1,7 +1,7 @@
 -- Weights in bytes.
 use Rattle.std.proofs.Common.{◌≡◌, ℕ, zero, suc, ◌+◌, ◌*◌, ◌/◌, ◌<◌, List, [], ◌∷◌, ◌++◌, length, take, get_or, set, refl, sym, ap, ◌∙◌, arith}
 use Rattle.std.proofs.lemmas.List.{take_more, take_more_set}
-use Rattle.xs_lists.specs.Bits.{bits_of, bits_of_bytes, bits_of_fields, HaveRoom}
+use Rattle.xs_lists.specs.Bits.{bits_of, bits_of_bytes, bits_of_fields, FieldsFit}
 use Rattle.xs_layout.specs.declared.Weight.{Weight}
 use Rattle.xs_markers.specs.Reading.{weights_of}
 use Rattle.xs_markers.proofs.Bodies.{pairs_of}
@@ -45,7 +45,7 @@ weights_bits (gain ∷ priority ∷ body) zero size = absurd (omega (arith, size
 weights_bits (gain ∷ priority ∷ body) (suc bands) size =
     ap (λ l. bits_of 8 gain ++ (bits_of 8 priority ++ l)) (weights_bits body bands (omega (arith, size)))
 
-pub weights_room : (body : List ℕ) → IsBytes body → HaveRoom (pairs_of (weights_of body))
+pub weights_room : (body : List ℕ) → IsBytes body → FieldsFit (pairs_of (weights_of body))
 weights_room [] small = tt
 weights_room (gain ∷ []) small = tt
 weights_room (gain ∷ priority ∷ body) small = (small 0, (small 1, weights_room body (λ i. small (suc (suc i)))))

@@ -2,7 +2,8 @@
 use Rattle.std.specs.Prelude.{◌≡◌, ℕ, None, List, ◌++◌, length}
 use Rattle.xs_lists.specs.Packing.{AreBytes}
 use Rattle.xs_params.specs.declared.header.Header.{Header}
-use Rattle.xs_grammar.specs.Header.{IsAccepted, IsHeaderFront}
+use Rattle.xs_grammar.specs.Header.{IsHeaderFront}
+use Rattle.xs_params.specs.Accepted.{IsAccepted}
 use Rattle.xs_grammar.specs.Coded.{HasRoom, header_bytes}
 use Rattle.xs_grammar.specs.Laws.{FollowsHeader}
 use Rattle.xs_decoding.specs.Built.{HasBuiltValues}

@@ -1,3 +1,4 @@
 pub mod Fields
+pub mod Values
 pub mod Reading
 pub mod Laws

@@ -7,14 +7,12 @@ mod laws;
 mod numbers;
 mod picture;
 mod read;
-mod rows;
+mod rules;
 mod write;
 
 pub use fields::bytes_of_fields;
 pub use laws::header_read_again;
 pub use read::read_header;
 pub use write::write_header;
+pub use xs_faults::{HeadFault, HeadField};
 pub use xs_params::Header;
-
-#[cfg(test)]
-mod tests;

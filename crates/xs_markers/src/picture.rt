@@ -1,15 +1,21 @@
 // The fields of a picture header.
 ghost use Rattle.std.specs.Prelude.{◌≡◌, ◌+◌, ◌*◌, ◌<◌, ◌^◌, length, max};
-ghost use Rattle.xs_layout.specs.Geometry.{ceil_div, slice_count_of};
-ghost use Rattle.xs_markers.specs.Reading.{band_count, end_of, header_of, picture_of, picture_rows, table_size};
+ghost use Rattle.xs_layout.specs.Geometry.{slice_count_of};
+ghost use Rattle.xs_markers.specs.Reading.{bands_of_fields, end_of, header_of_fields, picture_fields_of, table_size};
+ghost use Rattle.xs_markers.specs.Values.{picture_rules};
 
 use crate::numbers::{field, half_word_at, word_at};
-use crate::rows::{Row, only, within};
+use crate::rules::{FieldRule, exactly, tested, within};
 use xs_faults::HeadField;
+use xs_layout::limits::{
+    LEAST_HEIGHT, LEAST_WIDTH, MOST_ACROSS, MOST_AREA, MOST_DOWN, MOST_HEIGHT, MOST_SLICES,
+    MOST_WIDTH,
+};
+use xs_layout::{ceil_div, fq_of, is_precision};
 use xs_params::{Format, Header, Quant, Shape, Weights};
 
 /// What a picture header says, by the names of its fields in ISO/IEC 21122-1. Those that have no effect are left out.
-#[derive(Clone, Copy, Debug)]
+#[derive(Clone, Copy)]
 pub struct PictureFields {
     pub lcod: u32,
     pub wf: u16,
@@ -33,20 +39,11 @@ pub struct PictureFields {
     pub rm: u8,
 }
 
-// A quotient rounded up.
-fn ceil_div(dividend: u32, divisor: u32) -> u32
-    requires divisor { 0 < divisor }
-    requires room { dividend + divisor < 2 ^ 32 }
-    ensures { result ≡ ceil_div dividend divisor }
-{
-    (dividend + divisor - 1) / divisor
-}
-
 impl PictureFields {
     /// The fields of the body of a picture header.
     pub fn of(body: &[u8]) -> PictureFields
         requires size { length body.now ≡ 24 }
-        ensures fields { result ≡ picture_of body.now }
+        ensures fields { result ≡ picture_fields_of body.now }
     {
         PictureFields {
             lcod: word_at(body, 0),
@@ -87,43 +84,44 @@ impl PictureFields {
         u32::from(self.wf) * u32::from(self.hf)
     }
 
-    /// The fields with the values that are refused of them, in the order in which they are asked.
-    pub fn rows(&self) -> [Row; 20]
+    /// The values that the fields may have, in the order in which they are asked.
+    pub fn rules(&self) -> [FieldRule; 20]
         requires down { self.now.nly < 16 }
-        ensures rows { result ≡ picture_rows self.now }
+        ensures rules { result ≡ picture_rules self.now }
     {
+        let down = u32::from(MOST_DOWN.min(self.nlx));
         [
-            within(HeadField::Wf, 32, 8192, u32::from(self.wf)),
-            within(HeadField::Hf, 4, 8192, u32::from(self.hf)),
-            within(HeadField::Area, 0, 1 << 24, self.area()),
-            only(HeadField::Cw, 0, u32::from(self.cw)),
-            within(HeadField::Hsl, 1, 65535, u32::from(self.hsl)),
-            only(HeadField::Nc, 1, u32::from(self.nc)),
-            only(HeadField::Ng, 4, u32::from(self.ng)),
-            only(HeadField::Ss, 8, u32::from(self.ss)),
-            only(HeadField::Bw, 20, u32::from(self.bw)),
-            only(HeadField::Fq, 8, u32::from(self.fq)),
-            only(HeadField::Br, 4, u32::from(self.br)),
-            only(HeadField::Fslc, 0, u32::from(self.fslc)),
-            only(HeadField::Ppoc, 0, u32::from(self.ppoc)),
-            only(HeadField::Cpih, 0, u32::from(self.cpih)),
-            within(HeadField::Nlx, 1, 5, u32::from(self.nlx)),
+            within(HeadField::Wf, LEAST_WIDTH, MOST_WIDTH, u32::from(self.wf)),
+            within(HeadField::Hf, LEAST_HEIGHT, MOST_HEIGHT, u32::from(self.hf)),
+            within(HeadField::Area, 0, MOST_AREA as u32, self.area()),
+            exactly(HeadField::Cw, 0, u32::from(self.cw)),
+            tested(HeadField::Hsl, self.hsl > 0, u32::from(self.hsl)),
+            exactly(HeadField::Nc, 1, u32::from(self.nc)),
+            exactly(HeadField::Ng, 4, u32::from(self.ng)),
+            exactly(HeadField::Ss, 8, u32::from(self.ss)),
+            tested(HeadField::Bw, is_precision(self.bw), u32::from(self.bw)),
+            exactly(HeadField::Fq, u32::from(fq_of(self.bw)), u32::from(self.fq)),
+            exactly(HeadField::Br, 4, u32::from(self.br)),
+            exactly(HeadField::Fslc, 0, u32::from(self.fslc)),
+            exactly(HeadField::Ppoc, 0, u32::from(self.ppoc)),
+            exactly(HeadField::Cpih, 0, u32::from(self.cpih)),
             within(
-                HeadField::Nly,
-                0,
-                2.min(u32::from(self.nlx)),
-                u32::from(self.nly),
+                HeadField::Nlx,
+                1,
+                u32::from(MOST_ACROSS),
+                u32::from(self.nlx),
             ),
-            within(HeadField::Slices, 0, 2047, self.slices()),
-            only(HeadField::Qpih, 0, u32::from(self.qpih)),
-            only(HeadField::Fs, 0, u32::from(self.fs)),
-            only(HeadField::Rm, 0, u32::from(self.rm)),
+            within(HeadField::Nly, 0, down, u32::from(self.nly)),
+            within(HeadField::Slices, 0, MOST_SLICES, self.slices()),
+            exactly(HeadField::Qpih, 0, u32::from(self.qpih)),
+            exactly(HeadField::Fs, 0, u32::from(self.fs)),
+            exactly(HeadField::Rm, 0, u32::from(self.rm)),
         ]
     }
 
     // The number of bands.
     fn bands(&self) -> u16
-        ensures count { result ≡ band_count self.now }
+        ensures count { result ≡ bands_of_fields self.now }
         ensures few { result < 2 ^ 10 }
     {
         2 * u16::from(self.nly) + u16::from(self.nlx) + 1
@@ -145,7 +143,7 @@ impl PictureFields {
 
     /// The header with these fields, whose values were accepted, and these weights.
     pub fn header(&self, weights: Weights) -> Header
-        ensures header { result ≡ header_of self.now weights }
+        ensures header { result ≡ header_of_fields self.now weights }
     {
         Header {
             lcod: self.lcod,

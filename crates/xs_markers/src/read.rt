@@ -5,14 +5,15 @@ ghost use Rattle.xs_lists.specs.Spelling.{BeginsWith};
 ghost use Rattle.xs_params.specs.declared.header.Header.{Header};
 ghost use Rattle.xs_faults.specs.declared.HeadFault.TheVariants as HeadFault;
 ghost use Rattle.xs_grammar.specs.Header.{IsHeaderFront, pih_code};
-ghost use Rattle.xs_grammar.specs.Slice.{slh};
+ghost use Rattle.xs_params.specs.Markers.{slh};
 ghost use Rattle.xs_decoding.specs.Built.{IsBuiltHeader};
-ghost use Rattle.xs_markers.specs.Reading.{body_at, code_fault, component_rows, end_fault, head_fault, picture_at, segment_fault, table_size, weights_of};
+ghost use Rattle.xs_markers.specs.Reading.{segment_body_at, code_fault, end_fault, head_fault, picture_at, segment_fault, table_size, weights_of};
+ghost use Rattle.xs_markers.specs.Values.{component_rules};
 
 use crate::codes::{CAP, CDT, PIH, SLH, SOC, WGT};
 use crate::numbers::{field, half_word_at};
 use crate::picture::PictureFields;
-use crate::rows::{Row, accept, only};
+use crate::rules::{FieldRule, exactly, first_refused};
 use std::alloc::Global;
 use xs_faults::{HeadFault, HeadField};
 use xs_io::Memory;
@@ -63,7 +64,7 @@ fn segment_at(bytes: &[u8], place: usize, code: u16, size: u16) -> Result<&[u8],
     requires place { place < 2 ^ 16 }
     requires counted { 2 ≤ size }
     ensures first { result_err result ≡ segment_fault bytes.now place code size }
-    ensures body { IfOk result (λ body. body.now ≡ body_at bytes.now place size) }
+    ensures body { IfOk result (λ body. body.now ≡ segment_body_at bytes.now place size) }
     ensures whole { IfOk result (λ body. length body.now + 2 ≡ size) }
 {
     want_code(bytes, place, code)?;
@@ -97,14 +98,14 @@ fn want_end(bytes: &[u8], place: usize) -> Result<(), HeadFault>
     want_code(bytes, place, SLH)
 }
 
-fn component_rows(body: &[u8]) -> [Row; 3]
+fn component_rules(body: &[u8]) -> [FieldRule; 3]
     requires size { length body.now ≡ 2 }
-    ensures rows { result ≡ component_rows body.now }
+    ensures rules { result ≡ component_rules body.now }
 {
     [
-        only(HeadField::Bc, 8, u32::from(body[0])),
-        only(HeadField::Sx, 1, u32::from(field(body[1], 4, 4))),
-        only(HeadField::Sy, 1, u32::from(field(body[1], 4, 0))),
+        exactly(HeadField::Bc, 8, u32::from(body[0])),
+        exactly(HeadField::Sx, 1, u32::from(field(body[1], 4, 4))),
+        exactly(HeadField::Sy, 1, u32::from(field(body[1], 4, 0))),
     ]
 }
 
@@ -132,22 +133,22 @@ fn parts_of(bytes: &[u8]) -> Result<(PictureFields, &[u8]), HeadFault>
     requires few { length bytes.now < 2 ^ 32 }
     ensures first { result_err result ≡ head_fault bytes.now }
     ensures picture { IfOk result (λ parts. parts.0 ≡ picture_at bytes.now) }
-    ensures weights { IfOk result (λ parts. parts.1.now ≡ body_at bytes.now 40 (table_size (picture_at bytes.now))) }
+    ensures weights { IfOk result (λ parts. parts.1.now ≡ segment_body_at bytes.now 40 (table_size (picture_at bytes.now))) }
 {
     want_code(bytes, 0, SOC)?;
     segment_at(bytes, CAP_PLACE, CAP, 2)?;
     let picture = PictureFields::of(segment_at(bytes, PIH_PLACE, PIH, 26)?);
-    accept(&picture.rows())?;
+    first_refused(&picture.rules())?;
     let component = segment_at(bytes, CDT_PLACE, CDT, 4)?;
-    accept(&component_rows(component))?;
+    first_refused(&component_rules(component))?;
     let weights = segment_at(bytes, WGT_PLACE, WGT, picture.table_size())?;
     want_end(bytes, picture.end())?;
     Ok((picture, weights))
 }
 
 /// Reads a header from the front of the bytes, to the marker of the first slice or to their end, and gives the number of
-/// bytes that it has. What is read now are the segments in the order of `write_header`, of a grey picture of 8 bits;
-/// profile, level, gains and priorities may have any value.
+/// bytes that it has. The segments stand in the order of `write_header`, and the picture is grey with 8 bits; profile,
+/// level, gains and priorities may have any value. docs/FORMAT.md, 'Codestream layout' and 'Picture header'.
 pub fn read_header(alloc: Global, bytes: &[u8]) -> Result<(Header, usize), HeadFault>
     requires few { length bytes.now < 2 ^ 32 }
     // The bytes are a header that says this, and what follows it is a slice, or nothing.
@@ -160,8 +161,6 @@ pub fn read_header(alloc: Global, bytes: &[u8]) -> Result<(Header, usize), HeadF
     ensures first { IfErr result (λ fault. fault ≢ HeadFault.Memory → head_fault bytes.now ≡ Some fault) }
 {
     let (picture, weights) = parts_of(bytes)?;
-    match weights_of(alloc, weights) {
-        Ok(weights) => Ok((picture.header(weights), picture.end())),
-        Err(Memory) => Err(HeadFault::Memory),
-    }
+    let weights = weights_of(alloc, weights)?;
+    Ok((picture.header(weights), picture.end()))
 }

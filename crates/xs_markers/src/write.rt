@@ -1,27 +1,19 @@
 // Writing a header.
 ghost use Rattle.std.specs.Prelude.{◌≡◌, ◌<◌, ◌^◌, false, [], ◌∷◌, ◌++◌, IfOk, OnOk};
 ghost use Rattle.xs_layout.specs.Geometry.{components_of, sampling_of};
-ghost use Rattle.xs_grammar.specs.Header.{IsAccepted, quant_code, component_fields, weight_fields, picture_fields, segment_bytes};
+ghost use Rattle.xs_grammar.specs.Header.{quant_code, component_fields, weight_fields, picture_fields, segment_bytes};
+ghost use Rattle.xs_params.specs.Accepted.{IsAccepted};
 ghost use Rattle.xs_grammar.specs.Coded.{field_bytes, header_bytes};
 ghost use Rattle.xs_markers.specs.Fields.{AreFields, IsBody};
 
-use crate::codes::{CAP, CDT, PIH, SOC, WGT};
+use crate::codes::{CAP, CDT, PIH, WGT};
 use crate::fields::bytes_of_fields;
 use std::alloc::Global;
 use xs_io::{Memory, Octets};
-use xs_params::{Format, Header, Quant};
-
-fn components_of(format: Format) -> u8
-    ensures { result ≡ components_of format }
-{
-    match format {
-        Format::Mono => 1,
-        Format::C422 | Format::C444 => 3,
-    }
-}
+use xs_params::{Format, Header, Quant, markers};
 
 // By how much a component is narrower than the picture.
-fn sampling_of(format: Format, component: u8) -> u8
+fn sampling_of(format: Format, component: u32) -> u32
     ensures { result ≡ sampling_of format component }
 {
     match format {
@@ -39,7 +31,7 @@ fn quant_code(quant: Quant) -> u32
     }
 }
 
-fn length_of(header: &Header) -> u32
+fn stated_length(header: &Header) -> u32
     ensures { result ≡ header.now.lcod }
 {
     header.lcod
@@ -55,14 +47,14 @@ fn picture_fields(header: &Header) -> [(u32, u32); 23]
     ensures hsl { header.now.hsl < 2 ^ 16 }
 {
     [
-        (32, length_of(header)),
+        (32, stated_length(header)),
         (16, 0),
         (16, 0),
         (16, header.shape.width),
         (16, header.shape.height),
         (16, 0),
         (16, u32::from(header.hsl)),
-        (8, u32::from(components_of(header.shape.format))),
+        (8, header.shape.format.components()),
         (8, 4),
         (8, 8),
         (8, u32::from(header.bw)),
@@ -88,15 +80,11 @@ fn component_fields(alloc: Global, header: &Header) -> Result<Vec<(u32, u32)>, M
     ensures body { IfOk result (λ fields. IsBody fields.items) }
 {
     let mut fields = Vec::new(alloc);
-    'components: for component in 0..components_of(header.shape.format) {
+    'components: for component in 0..header.shape.format.components() {
         let sampling = sampling_of(header.shape.format, component);
         push_all(
             &mut fields,
-            &[
-                (8, u32::from(header.shape.depth)),
-                (4, u32::from(sampling)),
-                (4, 1),
-            ],
+            &[(8, u32::from(header.shape.depth)), (4, sampling), (4, 1)],
         )?;
     }
     Ok(fields)
@@ -149,6 +137,7 @@ fn put_segment(
 }
 
 /// The bytes of a header: the start marker, empty capabilities, the picture header, the components and the weights.
+/// docs/FORMAT.md, 'Codestream layout' and 'Picture header'.
 pub fn write_header(alloc: Global, header: &Header) -> Result<Octets, Memory>
     requires accepted { IsAccepted header.now }
     requires short_heads { header.now.long_heads ≡ false }
@@ -158,7 +147,7 @@ pub fn write_header(alloc: Global, header: &Header) -> Result<Octets, Memory>
     let components = component_fields(alloc, header)?;
     let weights = weight_fields(alloc, header)?;
     let mut out = Octets::new(alloc);
-    out.extend(&SOC.to_be_bytes())?;
+    out.extend(&markers::SOC)?;
     put_segment(alloc, &mut out, CAP, &[])?;
     put_segment(alloc, &mut out, PIH, &picture_fields(header))?;
     put_segment(alloc, &mut out, CDT, components.as_slice())?;

@@ -26,6 +26,7 @@ abbrev pub setting_name : Field → List ℕ
 setting_name setting.Width = codes "width"
 setting_name setting.Height = codes "height"
 setting_name setting.Depth = codes "depth"
+setting_name setting.Bits = codes "bits"
 setting_name setting.Nlx = codes "nlx"
 setting_name setting.Nly = codes "nly"
 setting_name setting.Hsl = codes "slice"
@@ -39,6 +40,7 @@ setting_name setting.Step = codes "step"
 setting_name setting.Boxes = codes "boxes"
 setting_name setting.Workers = codes "workers"
 setting_name setting.Feeders = codes "feeders"
+setting_name setting.Port = codes "port"
 
 -- a field of a header
 abbrev pub field_name : HeadField → List ℕ
@@ -123,11 +125,11 @@ note_text (note.Stepped count) = codes "stepped " ++ decimal count
 note_text note.ReadFault = codes "read fault"
 
 -- its line ends with a line feed
-abbrev pub line_of : Note → List ℕ
-line_of said = note_text said ++ codes "\n"
+abbrev pub note_line : Note → List ℕ
+note_line said = note_text said ++ codes "\n"
 
-abbrev pub lines_of : List Note → List ℕ
-lines_of notes = flat_map line_of notes
+abbrev pub note_lines : List Note → List ℕ
+note_lines notes = flat_map note_line notes
 
 -- No fault inside is want of memory
 

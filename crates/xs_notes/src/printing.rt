@@ -1,6 +1,6 @@
 // Notes as lines.
 ghost use Rattle.std.specs.Prelude.{◌≡◌, IfOk, Some};
-ghost use Rattle.xs_notes.specs.Lines.{line_of, note_text, NamesFault};
+ghost use Rattle.xs_notes.specs.Lines.{note_line, note_text, NamesFault};
 
 use crate::note::Note;
 use crate::texts::{HeadText, SliceText, setting_name};
@@ -11,7 +11,7 @@ use xs_io::{Memory, Octets};
 /// The line of a note, which ends with a line feed.
 pub fn report(alloc: Global, note: &Note) -> Result<Octets, Memory>
     requires { NamesFault note.now }
-    ensures { IfOk result (λ line. line ≡ line_of note.now) }
+    ensures { IfOk result (λ line. line ≡ note_line note.now) }
 {
     match format!(in alloc; "{note}\n") {
         Ok(line) => Octets::from_slice(alloc, line.as_bytes()),

@@ -27,6 +27,7 @@ pub fn setting_name(field: Field) -> &'static str
         Field::Width => "width",
         Field::Height => "height",
         Field::Depth => "depth",
+        Field::Bits => "bits",
         Field::Nlx => "nlx",
         Field::Nly => "nly",
         Field::Hsl => "slice",
@@ -40,6 +41,7 @@ pub fn setting_name(field: Field) -> &'static str
         Field::Boxes => "boxes",
         Field::Workers => "workers",
         Field::Feeders => "feeders",
+        Field::Port => "port",
     }
 }
 

@@ -12,7 +12,7 @@ use Rattle.xs_layout.specs.declared.Format.{Format}
 use Rattle.xs_layout.specs.declared.Format.TheVariants.{Mono, C422, C444}
 use Rattle.xs_layout.specs.declared.Shape.{Shape}
 use Rattle.xs_layout.specs.Geometry.{ceil_div, components_of, component_width_of}
-use Rattle.xs_params.specs.Picture.{RowsApart, IsShape, IsRow, IsPlace, IsPicture, AreSamples, Picture, sample_at, row_of, width_of, plane_size, plane_first, row_first, sample_count}
+use Rattle.xs_params.specs.Picture.{RowsApart, IsShape, IsRow, IsPlace, IsPicture, AreSamples, Picture, sample_at, samples_of_row, width_of, plane_size, plane_first, row_first, sample_count}
 
 upto_more : (n : ℕ) → upto (suc n) ≡ upto n ++ n ∷ []
 upto_more n =
@@ -120,7 +120,7 @@ picture_kept shape old part new first len before small inside size after =
 
 -- a sample by its place in the row
 pub row_sample : (picture : Picture) (component row column : ℕ) → column < width_of picture.shape component
-    → get_or (row_of picture component row) column 0 ≡ sample_at picture component row column
+    → get_or (samples_of_row picture component row) column 0 ≡ sample_at picture component row column
 row_sample picture component row column inside =
     get_or-take (width_of picture.shape component) (drop (row_first picture.shape component row) picture.samples) column 0 inside
     ∙ get_or-drop (row_first picture.shape component row) picture.samples column 0

@@ -13,7 +13,7 @@ use Rattle.xs_layout.specs.declared.Weight.{Weight}
 use Rattle.xs_layout.specs.Geometry.{ll, components_of, band_count_of, type_of_band}
 use Rattle.xs_layout.specs.Weighting.{default_gain, default_weights_of}
 use Rattle.xs_params.specs.declared.settings.Settings.{Settings}
-use Rattle.xs_params.specs.Check.{AreWeights, AreInRange, bands_of}
+use Rattle.xs_params.specs.Check.{AreWeights, AreInRange, bands_of_settings}
 use Rattle.xs_params.specs.Headers.{header_of}
 use Rattle.xs_params.proofs.Gains.{gain_wide, gain_deep}
 
@@ -50,7 +50,7 @@ chosen_in : (bands : ℕ) (given : Option (List Weight)) (other : List Weight) �
 chosen_in bands None other p q = q
 chosen_in bands (Some weights) other p q = p
 
-pub header_weights : (s : Settings) → AreInRange s → AreWeights (bands_of s) (header_of s).weights
+pub header_weights : (s : Settings) → AreInRange s → AreWeights (bands_of_settings s) (header_of s).weights
 header_weights s r =
-    chosen_in (bands_of s) s.weights (default_weights_of s.nlx s.nly (components_of s.shape.format)) r.weights
-    (default_in s.nlx s.nly (components_of s.shape.format) (omega (arith, r.across)) (omega (arith, r.down)) (some_component s.shape.format))
+    chosen_in (bands_of_settings s) s.weights (default_weights_of s.nlx s.nly (components_of s.shape.format)) r.weights
+    (default_in s.nlx s.nly (components_of s.shape.format) (omega (arith, r.nlx)) (omega (arith, r.nly)) (some_component s.shape.format))

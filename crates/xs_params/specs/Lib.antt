@@ -1,4 +1,9 @@
+pub mod Markers
+pub mod Boxes
 pub mod Picture
 pub mod Stream
+pub mod Geometry
+pub mod Rows
+pub mod Accepted
 pub mod Check
 pub mod Headers

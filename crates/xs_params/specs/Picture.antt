@@ -1,25 +1,29 @@
 -- A picture, and the raw picture that files hold: 'Samples, scaling and colour'; the accepted shapes: 'Picture header'.
-use Rattle.std.specs.Prelude.{◌≡◌, ℕ, ◌+◌, ◌-◌, ◌*◌, ◌^◌, ◌<◌, ◌≤◌, ◌⊎◌, nat_eq, nat_lt, if◌then◌else◌, Option, List, [], ◌∷◌, ◌++◌, take, drop, length, sum_by, position, slice_index, slice_set, All}
-use Rattle.std.specs.Int.{to_le_bytes, w16}
+use Rattle.std.specs.Prelude.{◌≡◌, ℕ, ◌+◌, ◌-◌, ◌*◌, ◌^◌, ◌<◌, ◌≤◌, ◌⊎◌, nat_eq, nat_lt, if◌then◌else◌, Option, List, [], ◌∷◌, ◌++◌, take, drop, length, map, sum_by, position, slice_index, slice_set, All}
+use Rattle.std.specs.Int.{from_le_bytes, to_le_bytes, w16}
 use Rattle.std.specs.List.{flat_map}
+use Rattle.std.specs.Option.{option_map}
 use Rattle.xs_lists.specs.Spelling.{upto}
 use Rattle.xs_layout.specs.declared.Shape.{Shape}
 use Rattle.xs_layout.specs.Geometry.{components_of, component_width_of}
+use Rattle.xs_layout.specs.Limits.{least_width, most_width, least_height, most_height, most_area, IsDepth}
 
 -- Shapes
 
 -- the shapes that a header may have
 pub record IsShape (shape : Shape) : Type 0 where
-  pub least_width : 32 ≤ shape.width
-  pub most_width : shape.width ≤ 8192
-  pub least_height : 4 ≤ shape.height
-  pub most_height : shape.height ≤ 8192
-  pub area : shape.width * shape.height ≤ 2 ^ 24
-  pub depth : (shape.depth ≡ 8) ⊎ (shape.depth ≡ 10) ⊎ (shape.depth ≡ 12)
+  pub width : (least_width ≤ shape.width) × (shape.width ≤ most_width)
+  pub height : (least_height ≤ shape.height) × (shape.height ≤ most_height)
+  pub area : shape.width * shape.height ≤ most_area
+  pub depth : IsDepth shape.depth
 
 -- the columns of a component
 abbrev pub width_of : Shape → ℕ → ℕ
 width_of shape component = component_width_of shape.format shape.width component
+
+-- the columns of all components
+abbrev pub columns_of_all : Shape → ℕ
+columns_of_all shape = sum_by (width_of shape) (upto (components_of shape.format))
 
 -- the samples of a component
 abbrev pub plane_size : Shape → ℕ → ℕ
@@ -74,19 +78,21 @@ abbrev pub sample_at : Picture → ℕ → ℕ → ℕ → ℕ
 sample_at picture component row column = slice_index picture.samples (row_first picture.shape component row + column)
 
 -- the samples of a row of a component
-abbrev pub row_of : Picture → ℕ → ℕ → List ℕ
-row_of picture component row = take (width_of picture.shape component) (drop (row_first picture.shape component row) picture.samples)
+abbrev pub samples_of_row : Picture → ℕ → ℕ → List ℕ
+samples_of_row picture component row = take (width_of picture.shape component) (drop (row_first picture.shape component row) picture.samples)
 
 -- the picture with another sample at one place
 abbrev pub with_sample : Picture → ℕ → ℕ → ℕ → ℕ → Picture
 with_sample picture component row column sample =
     record { shape = picture.shape; samples = slice_set picture.samples (row_first picture.shape component row + column) sample }
 
+-- a list with other numbers from a place on
+abbrev pub put_at : List ℕ → ℕ → List ℕ → List ℕ
+put_at list place numbers = take place list ++ numbers ++ drop (place + length numbers) list
+
 -- the picture with other samples in one row
-abbrev pub with_row : Picture → ℕ → ℕ → List ℕ → Picture
-with_row picture component row samples =
-    let first = row_first picture.shape component row in
-    record { shape = picture.shape; samples = take first picture.samples ++ samples ++ drop (first + length samples) picture.samples }
+abbrev pub with_samples : Picture → ℕ → ℕ → List ℕ → Picture
+with_samples picture component row samples = record { shape = picture.shape; samples = put_at picture.samples (row_first picture.shape component row) samples }
 
 -- Raw pictures
 
@@ -110,13 +116,21 @@ pairs_of [] = []
 pairs_of (low ∷ []) = low ∷ []
 pairs_of (low ∷ high ∷ bytes) = (low + 256 * high) ∷ pairs_of bytes
 
+-- the same of pairs of bytes
+abbrev pub pair_numbers : List (List ℕ) → List ℕ
+pair_numbers pairs = map (from_le_bytes w16) pairs
+
 -- the samples of a raw picture
 abbrev pub samples_of : ℕ → List ℕ → List ℕ
 samples_of depth bytes = if nat_eq depth 8 then bytes else pairs_of bytes
 
-abbrev pub picture_of : Shape → List ℕ → Picture
-picture_of shape bytes = record { shape = shape; samples = samples_of shape.depth bytes }
+abbrev pub picture_of_raw : Shape → List ℕ → Picture
+picture_of_raw shape bytes = record { shape = shape; samples = samples_of shape.depth bytes }
 
--- the first sample that has more bits than the depth
+-- the first of some samples that has more bits than the depth
+abbrev pub first_deeper : ℕ → List ℕ → Option ℕ
+first_deeper depth samples = position (nat_lt (2 ^ depth - 1)) samples
+
+-- the place of the first byte of the first sample of a raw picture that has more bits than the depth
 abbrev pub over_sample : Picture → Option ℕ
-over_sample picture = position (λ sample. nat_lt (2 ^ picture.shape.depth - 1) sample) picture.samples
+over_sample picture = option_map (λ at. at * sample_size picture.shape.depth) (first_deeper picture.shape.depth picture.samples)

@@ -1,11 +1,14 @@
 // The check of settings: which one is refused first.
-ghost use Rattle.std.specs.Prelude.{◌≡◌, ◌+◌, ◌*◌, ◌^◌, ◌<◌, ◌≤◌, ◌&&◌, ◌||◌, if◌then◌else◌, nat_lt, nat_le, length, min, IfOk, unwrap_or};
+ghost use Rattle.std.specs.Prelude.{◌≡◌, ◌^◌, ◌<◌, ◌≤◌, ◌&&◌, ◌||◌, if◌then◌else◌, nat_lt, nat_le, length, min, IfOk, unwrap_or};
 ghost use Rattle.std.specs.Result.{result_err};
 ghost use Rattle.xs_lists.specs.First.{first_of};
+ghost use Rattle.xs_lists.specs.Packing.{AreBytes};
 ghost use Rattle.xs_lists.specs.Fields.{word_at};
-ghost use Rattle.xs_layout.specs.Geometry.{band_count_of, ceil_div, components_of, narrowest_width};
+ghost use Rattle.xs_layout.specs.Geometry.{band_count_of, components_of, narrowest_width};
+ghost use Rattle.xs_layout.specs.Limits.{least_chunk, most_across, most_chunk, most_down, most_gain, most_width};
 ghost use Rattle.xs_layout.specs.Weighting.{default_weights_of};
-ghost use Rattle.xs_params.specs.Check.{AreInRange, AreWeights, are_boxes, bands_of, band_refusals, IsChecked, is_outside, layout_refusals, packet_refusals, refused, setting_refusals, shape_refusals, slices_of, thread_refusals, weights_fault};
+ghost use Rattle.xs_params.specs.Accepted.{IsAccepted};
+ghost use Rattle.xs_params.specs.Check.{AreInRange, AreWeights, are_boxes, are_together, BoxesTold, bands_of_settings, band_refusals, IsChecked, is_outside, is_share, layout_refusals, packet_refusals, port_refusals, refused, setting_refusals, shape_refusals, slices_of_settings, thread_refusals, weights_fault};
 ghost use Rattle.xs_params.specs.Headers.{header_of};
 
 use crate::header::{Header, Weights, default_weights};
@@ -14,12 +17,13 @@ use crate::settings::{Field, Setting, Settings};
 use std::alloc::Global;
 use std::marker::Model;
 use xs_io::Memory;
-use xs_layout::{Format, Shape, Weight};
-
-/// The most wavelet levels across.
-const MOST_ACROSS: u8 = 5;
-/// The most wavelet levels down.
-const MOST_DOWN: u8 = 2;
+use xs_layout::limits::{
+    HEADER_ROOM, LEAST_CHUNK, LEAST_HEIGHT, LEAST_PAYLOAD_TYPE, LEAST_SHARE, LEAST_WIDTH,
+    MOST_ACROSS, MOST_AREA, MOST_BOXES, MOST_CHUNK, MOST_COLUMNS, MOST_DOWN, MOST_FEEDERS,
+    MOST_FIRST_TIMESTAMP, MOST_GAIN, MOST_HEIGHT, MOST_PACKETS, MOST_PAYLOAD_TYPE, MOST_PORT,
+    MOST_SLICES, MOST_STEP, MOST_STREAM, MOST_WIDTH, MOST_WORKERS,
+};
+use xs_layout::{Format, Shape, Weight, ceil_div, fq_of, is_depth, is_precision};
 
 /// Settings of which none is refused.
 #[derive(Debug, Drop)]
@@ -29,13 +33,13 @@ pub struct Checked {
 
 impl Model for Checked {
     ghost use Rattle.xs_params.specs.declared.settings.Settings.{Settings};
-    ghost use Rattle.xs_params.specs.Check.{IsChecked};
+    ghost use Rattle.xs_params.specs.Check.{IsChecked, AreInRange};
 
     ghost Value = { Settings };
 
     ghost view = { λ c. c.settings };
 
-    ghost invariant = { λ c. IsChecked c.settings };
+    ghost invariant = { λ c. IsChecked c.settings × AreInRange c.settings };
 }
 
 impl Checked {
@@ -49,8 +53,10 @@ impl Checked {
 
     /// The header of a picture, with a length that is not stated, and with the default weights where none were given.
     pub fn header(&self, alloc: Global) -> Result<Header, Memory>
+        ensures in_range { AreInRange self.now }
         ensures header { IfOk result (λ header. header ≡ header_of self.now) }
-        ensures weights { IfOk result (λ header. AreWeights (bands_of self.now) header.weights) }
+        ensures accepted { IfOk result IsAccepted }
+        ensures weights { IfOk result (λ header. AreWeights (bands_of_settings self.now) header.weights) }
     {
         let settings = &self.settings;
         let weights = settings.weights_or_default(alloc)?;
@@ -58,8 +64,8 @@ impl Checked {
             lcod: 0,
             shape: settings.shape,
             hsl: settings.hsl,
-            bw: 20,
-            fq: 8,
+            bw: settings.bits,
+            fq: fq_of(settings.bits),
             colour: settings.colour,
             nlx: settings.nlx,
             nly: settings.nly,
@@ -79,6 +85,7 @@ impl Settings {
         ensures first { result_err result ≡ first_of (setting_refusals self) }
         ensures kept { IfOk result (λ checked. checked ≡ self) }
     {
+        known_bytes(self.boxes.as_slice());
         match self.refusal() {
             Some(setting) => Err(setting),
             None => Ok(Checked { settings: self }),
@@ -88,23 +95,29 @@ impl Settings {
     fn refusal(&self) -> Option<Setting>
         ensures { result ≡ first_of (setting_refusals self.now) }
     {
-        shape_refusal(&self.shape)
-            .or(self.layout_refusal())
-            .or(self.band_refusal())
+        let geometry = shape_refusal(&self.shape).or(self.layout_refusal());
+        if geometry.is_some() {
+            return geometry;
+        }
+        self.band_refusal()
             .or(self.packet_refusal())
             .or(thread_refusal(self.workers, self.feeders))
+            .or(port_refusal(self.port))
     }
 
     fn layout_refusal(&self) -> Option<Setting>
         ensures { result ≡ first_of (layout_refusals self.now) }
     {
+        if !is_precision(self.bits) {
+            return Some(refused(Field::Bits, u64::from(self.bits)));
+        }
         if is_outside(1, u32::from(MOST_ACROSS), u32::from(self.nlx)) || self.is_too_narrow() {
             return Some(refused(Field::Nlx, u64::from(self.nlx)));
         }
         if self.nly > MOST_DOWN.min(self.nlx) {
             return Some(refused(Field::Nly, u64::from(self.nly)));
         }
-        if self.hsl == 0 || self.slices() > 2047 {
+        if self.hsl == 0 || self.slices() > MOST_SLICES {
             return Some(refused(Field::Hsl, u64::from(self.hsl)));
         }
         None
@@ -116,7 +129,7 @@ impl Settings {
         if self.colour && self.shape.format != Format::C444 {
             return Some(refused(Field::Colour, 1));
         }
-        let bands = count_bands(self.nlx, self.nly, components(self.shape.format));
+        let bands = count_bands(self.nlx, self.nly, self.shape.format.components());
         let bad = match &self.weights {
             Some(weights) => weights_fault(bands, weights.as_slice()),
             None => None,
@@ -125,51 +138,68 @@ impl Settings {
     }
 
     fn packet_refusal(&self) -> Option<Setting>
+        requires down { self.now.nly ≤ most_down }
+        requires height { 0 < self.now.hsl }
         ensures { result ≡ first_of (packet_refusals self.now) }
     {
-        if is_outside(64, 8192, self.chunk) {
+        if is_outside(LEAST_CHUNK, MOST_CHUNK, self.chunk) {
             return Some(refused(Field::Chunk, u64::from(self.chunk)));
         }
-        if is_outside(64, 64 * self.chunk - 2, self.share) {
+        if !self.is_share() {
             return Some(refused(Field::Share, u64::from(self.share)));
         }
-        if is_outside(96, 127, u32::from(self.payload_type)) {
+        if is_outside(
+            u32::from(LEAST_PAYLOAD_TYPE),
+            u32::from(MOST_PAYLOAD_TYPE),
+            u32::from(self.payload_type),
+        ) {
             return Some(refused(Field::PayloadType, u64::from(self.payload_type)));
         }
-        if self.first_timestamp > 1 << 31 {
+        if self.first_timestamp > MOST_FIRST_TIMESTAMP {
             return Some(refused(Field::FirstTimestamp, u64::from(self.first_timestamp)));
         }
-        if is_outside(1, 4_194_304, self.step) {
+        if is_outside(1, MOST_STEP, self.step) {
             return Some(refused(Field::Step, u64::from(self.step)));
         }
-        if self.boxes.len() > 2048 || !are_boxes(self.boxes.as_slice()) {
+        if self.boxes.len() > MOST_BOXES || !are_boxes(self.boxes.as_slice()) {
             return Some(refused(Field::Boxes, self.boxes.len() as u64));
         }
         None
     }
 
+    /// Whether a slice may have so many bytes.
+    fn is_share(&self) -> bool
+        requires down { self.now.nly ≤ most_down }
+        requires height { 0 < self.now.hsl }
+        requires chunk { (least_chunk ≤ self.now.chunk) × (self.now.chunk ≤ most_chunk) }
+        ensures { result ≡ is_share self.now }
+    {
+        let stream = u64::from(self.slices()) * u64::from(self.share) + HEADER_ROOM;
+        !is_outside(LEAST_SHARE, MOST_PACKETS * self.chunk - 2, self.share) && stream <= MOST_STREAM
+    }
+
     /// Whether the narrowest component has fewer columns than its lowest band needs.
     fn is_too_narrow(&self) -> bool
-        requires { self.now.nlx ≤ 5 }
+        requires { self.now.nlx ≤ most_across }
         ensures { result ≡ nat_lt (narrowest_width self.now.shape.format self.now.shape.width) (2 ^ self.now.nlx) }
     {
-        component_width(&self.shape, components(self.shape.format) - 1) < 1 << self.nlx
+        component_width(&self.shape, self.shape.format.components() - 1) < 1 << self.nlx
     }
 
     /// The number of slices.
-    fn slices(&self) -> u64
-        requires down { self.now.nly ≤ 2 }
+    fn slices(&self) -> u32
+        requires down { self.now.nly ≤ most_down }
         requires height { 0 < self.now.hsl }
-        ensures { result ≡ slices_of self.now }
+        ensures { result ≡ slices_of_settings self.now }
     {
-        let precincts = ceil_div(u64::from(self.shape.height), 1 << self.nly);
-        ceil_div(precincts, u64::from(self.hsl))
+        let precincts = ceil_div(self.shape.height, 1 << self.nly);
+        ceil_div(precincts, u32::from(self.hsl))
     }
 
     /// The weights, or the default ones where none are given.
     fn weights_or_default(&self, alloc: Global) -> Result<Weights, Memory>
-        requires across { (1 ≤ self.now.nlx) × (self.now.nlx ≤ 5) }
-        requires down { self.now.nly ≤ min 2 self.now.nlx }
+        requires across { (1 ≤ self.now.nlx) × (self.now.nlx ≤ most_across) }
+        requires down { self.now.nly ≤ min most_down self.now.nlx }
         ensures { IfOk result (λ weights. weights ≡ unwrap_or self.now.weights (default_weights_of self.now.nlx self.now.nly (components_of self.now.shape.format))) }
     {
         match &self.weights {
@@ -178,7 +208,7 @@ impl Settings {
                 alloc,
                 self.nlx,
                 self.nly,
-                components(self.shape.format) as u8,
+                self.shape.format.components() as u8,
             ),
         }
     }
@@ -187,29 +217,45 @@ impl Settings {
 fn shape_refusal(shape: &Shape) -> Option<Setting>
     ensures { result ≡ first_of (shape_refusals shape.now) }
 {
-    if is_outside(32, 8192, shape.width) {
+    if is_outside(LEAST_WIDTH, MOST_WIDTH, shape.width) || !are_together(shape) {
         return Some(refused(Field::Width, u64::from(shape.width)));
     }
     let area = u64::from(shape.width) * u64::from(shape.height);
-    if is_outside(4, 8192, shape.height) || area > 1 << 24 {
+    if is_outside(LEAST_HEIGHT, MOST_HEIGHT, shape.height) || area > MOST_AREA {
         return Some(refused(Field::Height, u64::from(shape.height)));
     }
-    if !matches!(shape.depth, 8 | 10 | 12) {
+    if !is_depth(shape.depth) {
         return Some(refused(Field::Depth, u64::from(shape.depth)));
     }
     None
 }
 
+/// Whether the components have so few columns together that what a packet has fits its fields, though nothing is cut
+/// off.
+fn are_together(shape: &Shape) -> bool
+    requires { shape.now.width ≤ most_width }
+    ensures { result ≡ are_together shape.now }
+{
+    let others = (shape.format.components() - 1) * component_width(shape, 1);
+    shape.width + others <= MOST_COLUMNS
+}
+
 fn thread_refusal(workers: u8, feeders: u8) -> Option<Setting>
     ensures { result ≡ first_of (thread_refusals workers feeders) }
 {
-    if is_outside(1, 16, u32::from(workers)) {
+    if is_outside(1, u32::from(MOST_WORKERS), u32::from(workers)) {
         return Some(refused(Field::Workers, u64::from(workers)));
     }
-    if is_outside(1, 8, u32::from(feeders)) {
+    if is_outside(1, u32::from(MOST_FEEDERS), u32::from(feeders)) {
         return Some(refused(Field::Feeders, u64::from(feeders)));
     }
     None
+}
+
+fn port_refusal(port: u32) -> Option<Setting>
+    ensures { result ≡ first_of (port_refusals port) }
+{
+    is_outside(1, MOST_PORT, port).then_some(refused(Field::Port, u64::from(port)))
 }
 
 fn refused(field: Field, value: u64) -> Setting
@@ -225,30 +271,11 @@ fn is_outside(low: u32, high: u32, value: u32) -> bool
     value < low || high < value
 }
 
-fn components(format: Format) -> u32
-    ensures count { result ≡ components_of format }
-    ensures few { result ≤ 3 }
-{
-    match format {
-        Format::Mono => 1,
-        Format::C422 | Format::C444 => 3,
-    }
-}
-
 fn count_bands(nlx: u8, nly: u8, components: u32) -> u32
     requires { components ≤ 3 }
     ensures { result ≡ band_count_of nlx nly components }
 {
     (2 * u32::from(nly) + u32::from(nlx) + 1) * components
-}
-
-/// A quotient rounded up.
-fn ceil_div(dividend: u64, divisor: u64) -> u64
-    requires divisor { 0 < divisor }
-    requires room { dividend + divisor < 2 ^ 64 }
-    ensures { result ≡ ceil_div dividend divisor }
-{
-    (dividend + divisor - 1) / divisor
 }
 
 /// What is wrong with weights: that there is not one for each band, or the first that is out of range.
@@ -264,14 +291,25 @@ fn weights_fault(bands: u32, weights: &[Weight]) -> Option<usize>
 }
 
 fn is_out_of_range(weight: &Weight, bands: u32) -> bool
-    ensures { result ≡ (nat_lt 15 weight.now.gain || nat_le bands weight.now.priority) }
+    ensures { result ≡ (nat_lt most_gain weight.now.gain || nat_le bands weight.now.priority) }
 {
-    weight.gain > 15 || u32::from(weight.priority) >= bands
+    weight.gain > MOST_GAIN || u32::from(weight.priority) >= bands
 }
+
+/// What the type of bytes says of them.
+fn known_bytes(bytes: &[u8])
+    ensures { AreBytes bytes.now }
+{}
+
+/// The test of boxes tells whether there are such boxes.
+#[tactic(auto, using(crate::proofs::Boxes::boxes_told))]
+pub fn boxes_told()
+    ensures { BoxesTold }
+{}
 
 /// Whether the bytes are whole boxes, one after the other, each of a stated length of 8 or more.
 fn are_boxes(bytes: &[u8]) -> bool
-    ensures { result ≡ are_boxes (length bytes.now) bytes.now }
+    ensures { result ≡ are_boxes 0 bytes.now }
 {
     let mut place = 0;
     'boxes: while place < bytes.len() {

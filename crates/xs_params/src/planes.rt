@@ -1,12 +1,14 @@
 // Pictures.
-ghost use Rattle.std.specs.Prelude.{◌≡◌, ℕ, ◌+◌, ◌*◌, ◌<◌, ◌≤◌, ◌^◌, ◌++◌, length, take, drop, IfOk, replicate};
+ghost use Rattle.std.specs.Prelude.{◌≡◌, ℕ, ◌+◌, ◌*◌, ◌<◌, ◌≤◌, ◌^◌, if◌then◌else◌, is_ok, length, take, drop, IfOk, replicate};
+ghost use Rattle.std.specs.Result.{result_err};
 ghost use Rattle.xs_layout.specs.Geometry.{components_of, component_width_of};
-ghost use Rattle.xs_params.specs.Picture.{RowsApart, IsShape, IsRow, IsPlace, IsPicture, AreSamples, Picture, plane_first, row_first, width_of, sample_count, sample_at, row_of, with_sample, with_row};
+ghost use Rattle.xs_params.specs.Picture.{RowsApart, IsShape, IsRow, IsPlace, IsPicture, AreSamples, Picture, plane_first, put_at, row_first, width_of, sample_count, sample_at, sample_size, first_deeper, samples_of, samples_of_row, with_sample, with_samples};
 
+use crate::raw::put_raw;
 use std::alloc::Global;
 use std::marker::Model;
 use xs_io::Memory;
-use xs_layout::{Format, Shape};
+use xs_layout::{Format, Shape, ceil_div};
 
 /// A picture: for each component its rows of samples. Contracts see it in the order of the raw picture.
 #[derive(Debug, Drop)]
@@ -65,7 +67,7 @@ impl Planes {
     /// A row of a component.
     pub fn row(&self, component: u32, row: u32) -> &[u16]
         requires { IsRow self.now.shape component row }
-        ensures samples { result.now ≡ row_of self.now component row }
+        ensures samples { result.now ≡ samples_of_row self.now component row }
         ensures width { length result.now ≡ width_of self.now.shape component }
         ensures small { AreSamples self.now.shape.depth result.now }
     {
@@ -79,10 +81,24 @@ impl Planes {
         requires row { IsRow self.old.shape component row }
         requires width { length samples.now ≡ width_of self.old.shape component }
         requires small { AreSamples self.old.shape.depth samples.now }
-        ensures set { self.new ≡ with_row self.old component row samples.now }
+        ensures set { self.new ≡ with_samples self.old component row samples.now }
     {
         let start = row_start(&self.shape, component, row);
         put_part(self.samples.as_mut_slice(), start, samples);
+    }
+
+    /// Replaces a row of a component by the samples that raw bytes hold: one byte each at depth 8, two at depths 10 and
+    /// 12, the low one first. Where a sample has more bits than the depth, the picture is as before, and the column of
+    /// the first is told.
+    pub fn set_raw_row(&mut self, component: u32, row: u32, bytes: &[u8]) -> Result<(), usize>
+        requires row { IsRow self.old.shape component row }
+        requires size { length bytes.now ≡ width_of self.old.shape component * sample_size self.old.shape.depth }
+        ensures first { result_err result ≡ first_deeper self.old.shape.depth (samples_of self.old.shape.depth bytes.now) }
+        ensures shape { self.new.shape ≡ self.old.shape }
+        ensures set { self.new ≡ (if is_ok result then with_samples self.old component row (samples_of self.old.shape.depth bytes.now) else self.old) }
+    {
+        let start = row_start(&self.shape, component, row);
+        put_raw(self.samples.as_mut_slice(), start, self.shape.depth, bytes)
     }
 }
 
@@ -96,7 +112,7 @@ pub fn component_width(shape: &Shape, component: u32) -> u32
     ensures width { result ≡ component_width_of shape.now.format shape.now.width component }
 {
     match shape.format {
-        Format::C422 if component > 0 => shape.width / 2 + shape.width % 2,
+        Format::C422 if component > 0 => ceil_div(shape.width, 2),
         Format::Mono | Format::C422 | Format::C444 => shape.width,
     }
 }
@@ -113,10 +129,7 @@ fn count_samples(shape: &Shape) -> usize
     requires { IsShape shape.now }
     ensures count { result ≡ sample_count shape.now }
 {
-    match shape.format {
-        Format::Mono => plane_start(shape, 1),
-        Format::C422 | Format::C444 => plane_start(shape, 3),
-    }
+    plane_start(shape, shape.format.components())
 }
 
 /// Where a component's samples begin, or at the number of components where all of them end.
@@ -165,7 +178,7 @@ fn part(samples: &[u16], start: usize, count: usize) -> &[u16]
 /// Writes samples from a place on.
 fn put_part(samples: &mut [u16], start: usize, part: &[u16])
     requires { start + length part.now ≤ length samples.old }
-    ensures { samples.new ≡ take start samples.old ++ part.now ++ drop (start + length part.now) samples.old }
+    ensures { samples.new ≡ put_at samples.old start part.now }
 {
     samples[start..start + part.len()].copy_from_slice(part);
 }

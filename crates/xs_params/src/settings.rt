@@ -7,6 +7,8 @@ use xs_layout::{Quant, Shape};
 #[derive(Debug, Drop)]
 pub struct Settings {
     pub shape: Shape,
+    /// Bits of the numbers that the transforms work on.
+    pub bits: u8,
     /// Wavelet levels across.
     pub nlx: u8,
     /// Wavelet levels down.
@@ -22,8 +24,12 @@ pub struct Settings {
     pub weights: Option<Weights>,
     /// The most bytes that a slice may have.
     pub share: u32,
+    /// Whether a slice is filled up to that many.
+    pub fill: bool,
     /// The most bytes of a unit in one packet.
     pub chunk: u32,
+    /// What a unit of the packets is.
+    pub mode: Mode,
     /// RTP payload type.
     pub payload_type: u8,
     /// RTP synchronisation source.
@@ -36,6 +42,17 @@ pub struct Settings {
     pub boxes: Octets,
     pub workers: u8,
     pub feeders: u8,
+    /// UDP port of the packets.
+    pub port: u32,
+}
+
+/// What a unit of the packets is.
+#[derive(Clone, Copy, Debug)]
+pub enum Mode {
+    /// The header with the boxes before it, or a slice.
+    Slice,
+    /// The whole codestream with the boxes before it.
+    Stream,
 }
 
 /// A setting that can be refused.
@@ -44,6 +61,7 @@ pub enum Field {
     Width,
     Height,
     Depth,
+    Bits,
     Nlx,
     Nly,
     Hsl,
@@ -57,6 +75,7 @@ pub enum Field {
     Boxes,
     Workers,
     Feeders,
+    Port,
 }
 
 /// A setting that is refused, and its value.

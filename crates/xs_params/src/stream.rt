@@ -2,12 +2,10 @@
 ghost use Rattle.std.specs.Prelude.{◌≡◌, ◌-◌, ◌<◌, ◌^◌, [], ◌∷◌, ◌++◌, if◌then◌else◌, is_ok, length, slice_index_or, IfOk};
 ghost use Rattle.xs_params.specs.Stream.{stream_bytes};
 
+use crate::markers::EOC;
 use std::alloc::Global;
 use std::marker::Model;
 use xs_io::{Memory, Octets};
-
-/// The marker that ends a codestream.
-const END_MARKER: [u8; 2] = [0xff, 0x11];
 
 /// A codestream in pieces: its header and its slices, without the end marker.
 #[derive(Debug, Drop)]
@@ -28,7 +26,7 @@ impl Model for Stream {
 }
 
 impl Stream {
-    /// A codestream with no slices yet. It takes no memory.
+    /// A codestream with no slices. It takes no memory.
     pub fn new(alloc: Global, header: Octets) -> Stream
         ensures header { result.header ≡ header }
         ensures empty { result.slices ≡ [] }
@@ -37,6 +35,13 @@ impl Stream {
             header,
             slices: Vec::new(alloc),
         }
+    }
+
+    /// The bytes of the header.
+    pub fn header(&self) -> &Octets
+        ensures header { result.now ≡ self.now.header }
+    {
+        &self.header
     }
 
     /// Appends a slice. Where it is refused, the slice is given up and the codestream is as before.
@@ -70,7 +75,7 @@ impl Stream {
         'joining: for slice in &self.slices {
             bytes.extend(slice.as_slice())?;
         }
-        bytes.extend(&END_MARKER)?;
+        bytes.extend(&EOC)?;
         Ok(bytes)
     }
 }

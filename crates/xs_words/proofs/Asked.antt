@@ -4,7 +4,8 @@ use Rattle.std.specs.Option.{option_map}
 use Rattle.std.proofs.lemmas.Bool.Decides.{nat_tests}
 use Rattle.xs_lists.specs.First.{first_of}
 use Rattle.xs_layout.specs.Geometry.{narrowest_width}
-use Rattle.xs_params.specs.Check.{is_outside, most_across, most_down, refused, setting_refusals, slices_of}
+use Rattle.xs_layout.specs.Limits.{most_across, most_down, most_slices}
+use Rattle.xs_params.specs.Check.{is_outside, refused, setting_refusals, slices_of_settings}
 use Rattle.xs_params.specs.declared.settings.Settings.{Settings}
 use Rattle.xs_params.specs.declared.settings.Field.TheVariants.{Nlx, Nly, Hsl}
 use Rattle.xs_words.specs.Narrow.{as_asked, narrowed}
@@ -47,16 +48,16 @@ asked_by : (s : Settings) (across down height : Bool) → ltb s.nlx 256 ≡ acro
     → first_of (setting_refusals s) ≡ option_map (as_asked s) (first_of (setting_refusals (narrowed_by s across down height)))
 asked_by s false down height p q r =
     let narrow = ltb (narrowest_width s.shape.format s.shape.width) (2 ^ s.nlx) in
-    cut_at 3 (setting_refusals s) (is_outside 1 most_across s.nlx || narrow) (refused Nlx s.nlx) refl (too_wide s.nlx narrow p)
-    ∙ sym (first_of-map (as_asked s) (take 3 (setting_refusals s) ++ (true, refused Nlx 255) ∷ []))
+    cut_at 4 (setting_refusals s) (is_outside 1 most_across s.nlx || narrow) (refused Nlx s.nlx) refl (too_wide s.nlx narrow p)
+    ∙ sym (first_of-map (as_asked s) (take 4 (setting_refusals s) ++ (true, refused Nlx 255) ∷ []))
 asked_by s true false height p q r =
-    cut_at 4 (setting_refusals s) (ltb (min most_down s.nlx) s.nly) (refused Nly s.nly) refl (too_deep s.nly s.nlx q)
-    ∙ sym (first_of-map (as_asked s) (take 4 (setting_refusals s) ++ (true, refused Nly 255) ∷ []))
-    ∙ ap (option_map (as_asked s)) (sym (cut_at 4 (setting_refusals (narrowed_by s true false height)) (ltb (min most_down s.nlx) 255) (refused Nly 255) refl (shallow s.nlx)))
+    cut_at 5 (setting_refusals s) (ltb (min most_down s.nlx) s.nly) (refused Nly s.nly) refl (too_deep s.nly s.nlx q)
+    ∙ sym (first_of-map (as_asked s) (take 5 (setting_refusals s) ++ (true, refused Nly 255) ∷ []))
+    ∙ ap (option_map (as_asked s)) (sym (cut_at 5 (setting_refusals (narrowed_by s true false height)) (ltb (min most_down s.nlx) 255) (refused Nly 255) refl (shallow s.nlx)))
 asked_by s true true false p q r =
-    let many = ltb 2047 (slices_of s) in
-    cut_at 5 (setting_refusals s) (is_outside 1 (2 ^ 16 - 1) s.hsl || many) (refused Hsl s.hsl) refl (too_high s.hsl many r)
-    ∙ sym (first_of-map (as_asked s) (take 5 (setting_refusals s) ++ (true, refused Hsl 0) ∷ []))
+    let many = ltb most_slices (slices_of_settings s) in
+    cut_at 6 (setting_refusals s) (is_outside 1 (2 ^ 16 - 1) s.hsl || many) (refused Hsl s.hsl) refl (too_high s.hsl many r)
+    ∙ sym (first_of-map (as_asked s) (take 6 (setting_refusals s) ++ (true, refused Hsl 0) ∷ []))
 asked_by s true true true p q r = sym (first_of-map (as_asked s) (setting_refusals s))
 
 -- the check of the narrowed settings refuses what a check of the settings would

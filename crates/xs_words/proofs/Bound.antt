@@ -12,7 +12,7 @@ use Rattle.std.proofs.lemmas.Option.{slice_get_past}
 use Rattle.std.proofs.lemmas.Slice.Eq.{bytes_eq-Decides}
 use Rattle.xs_lists.specs.Spelling.{upto}
 use Rattle.xs_words.specs.Table.{Row, decode_rows, encode_rows, form}
-use Rattle.xs_words.specs.Words.{bad_place, is_bad_name, is_bad_value, is_name_at, is_name_place, is_named_before, name_word, row_named, table_of, word_at}
+use Rattle.xs_words.specs.Words.{bad_place, is_bad_name, is_bad_value, is_name_at, is_name_place, is_named_before, name_word, row_named, table_of, word_in}
 use Rattle.xs_words.proofs.Places.{stop}
 use Rattle.xs_words.proofs.BadPlace.{good_before}
 use Rattle.xs_words.proofs.Given.{neither}
@@ -77,7 +77,7 @@ pigeons f high n each apart =
 
 -- the names before the first bad word
 name_at : List (List ℕ) → ℕ → List ℕ
-name_at words j = word_at words (2 * j + 1)
+name_at words j = word_in words (2 * j + 1)
 
 name_place-odd : (j : ℕ) → is_name_place (2 * j + 1) ≡ true
 name_place-odd j = grind (arith, nat_tests)
@@ -86,32 +86,32 @@ chosen : (b x y : Bool) → b ≡ true → cond b x y ≡ x
 chosen true x y e = refl
 chosen false x y e = cc
 
-good_name : (words : List (List ℕ)) (table : List Row) → table_of (word_at words 0) ≡ Some table → (j : ℕ) → 2 * j + 1 < stop (length words) (bad_place words)
-    → (is_none (row_named table (word_at words (2 * j + 1))) ≡ false) × (is_named_before words (word_at words (2 * j + 1)) (2 * j + 1) ≡ false)
+good_name : (words : List (List ℕ)) (table : List Row) → table_of (word_in words 0) ≡ Some table → (j : ℕ) → 2 * j + 1 < stop (length words) (bad_place words)
+    → (is_none (row_named table (word_in words (2 * j + 1))) ≡ false) × (is_named_before words (word_in words (2 * j + 1)) (2 * j + 1) ≡ false)
 good_name words table t j below =
     let place = 2 * j + 1 in
     let good = good_before words table t place (omega arith) below in
     let name = sym (chosen (is_name_place place) (is_bad_name table words place) (is_bad_value table words place) (name_place-odd j)) ∙ good in
-    neither (is_none (row_named table (word_at words place))) (is_named_before words (word_at words place) place) name
+    neither (is_none (row_named table (word_in words place))) (is_named_before words (word_in words place) place) name
 
 -- a name that stands earlier is named before
-named_before : (words : List (List ℕ)) (j k : ℕ) → j < k → word_at words (2 * j + 1) ≡ word_at words (2 * k + 1) → is_named_before words (word_at words (2 * k + 1)) (2 * k + 1) ≡ true
+named_before : (words : List (List ℕ)) (j k : ℕ) → j < k → word_in words (2 * j + 1) ≡ word_in words (2 * k + 1) → is_named_before words (word_in words (2 * k + 1)) (2 * k + 1) ≡ true
 named_before words j k above same =
-    let word = word_at words (2 * k + 1) in
+    let word = word_in words (2 * k + 1) in
     let test = is_name_at words word in
     let there : 2 * j + 1 < length (upto (2 * k + 1)) = omega (arith, length-range_with_len 0 (2 * k + 1)) in
     let start : 0 + (2 * j + 1) ≡ 2 * j + 1 = omega arith in
     let at : get_or (upto (2 * k + 1)) (2 * j + 1) 0 ≡ 2 * j + 1 = get_or-range_with_len 0 (2 * k + 1) (2 * j + 1) 0 (omega arith) ∙ start in
-    let spelled = (bytes_eq-Decides (word_at words (2 * j + 1)) word).1 same in
-    let named : test (2 * j + 1) ≡ true = ap (λ b. b && bytes_eq (word_at words (2 * j + 1)) word) (name_place-odd j) ∙ spelled in
+    let spelled = (bytes_eq-Decides (word_in words (2 * j + 1)) word).1 same in
+    let named : test (2 * j + 1) ≡ true = ap (λ b. b && bytes_eq (word_in words (2 * j + 1)) word) (name_place-odd j) ∙ spelled in
     or_at (list_any test) test refl (λ _ _. refl) (upto (2 * k + 1)) (2 * j + 1) 0 there (ap test at ∙ named)
 
-names_apart : (words : List (List ℕ)) (table : List Row) → table_of (word_at words 0) ≡ Some table → (j k : ℕ) → j < k → 2 * k + 1 < stop (length words) (bad_place words)
-    → seat_of table (word_at words (2 * j + 1)) ≢ seat_of table (word_at words (2 * k + 1))
+names_apart : (words : List (List ℕ)) (table : List Row) → table_of (word_in words 0) ≡ Some table → (j k : ℕ) → j < k → 2 * k + 1 < stop (length words) (bad_place words)
+    → seat_of table (word_in words (2 * j + 1)) ≢ seat_of table (word_in words (2 * k + 1))
 names_apart words table t j k above below same =
     let first = good_name words table t j (omega arith) in
     let second = good_name words table t k below in
-    let repeated = named_before words j k above (same_seat table (word_at words (2 * j + 1)) (word_at words (2 * k + 1)) first.0 second.0 same) in
+    let repeated = named_before words j k above (same_seat table (word_in words (2 * j + 1)) (word_in words (2 * k + 1)) first.0 second.0 same) in
     let once = second.1 in
     cc
 
@@ -124,16 +124,16 @@ few_rows word table = by_name (bytes_eq word (codes "encode")) (bytes_eq word (c
     by_name false true e = let same : decode_rows ≡ table = cc in omega (arith, ap length same)
     by_name false false e = absurd (cc)
 
-near-where : (words : List (List ℕ)) (table : List Row) → table_of (word_at words 0) ≡ Some table → (found : Option ℕ) → bad_place words ≡ found → IfSome found (λ place. place ≤ 19)
+near-where : (words : List (List ℕ)) (table : List Row) → table_of (word_in words 0) ≡ Some table → (found : Option ℕ) → bad_place words ≡ found → IfSome found (λ place. place ≤ 19)
 near-where words table t None e = tt
 near-where words table t (Some place) e =
     let end : stop (length words) (bad_place words) ≡ place = ap (stop (length words)) e in
-    let most = few_rows (word_at words 0) table t in
-    let few = pigeons (λ j. seat_of table (word_at words (2 * j + 1))) (length table) (place / 2)
-    (λ k below. seat-below table (word_at words (2 * k + 1)) (good_name words table t k (omega arith)).0)
+    let most = few_rows (word_in words 0) table t in
+    let few = pigeons (λ j. seat_of table (word_in words (2 * j + 1))) (length table) (place / 2)
+    (λ k below. seat-below table (word_in words (2 * k + 1)) (good_name words table t k (omega arith)).0)
     (λ j k above below. names_apart words table t j k above (omega arith)) in
     omega arith
 
 -- the first bad word of a command is one of the first twenty
-pub near : (words : List (List ℕ)) (table : List Row) → table_of (word_at words 0) ≡ Some table → IfSome (bad_place words) (λ place. place ≤ 19)
+pub near : (words : List (List ℕ)) (table : List Row) → table_of (word_in words 0) ≡ Some table → IfSome (bad_place words) (λ place. place ≤ 19)
 near words table t = near-where words table t (bad_place words) refl

@@ -8,7 +8,7 @@ use Rattle.xs_params.specs.declared.settings.Setting.{Setting}
 use Rattle.xs_words.specs.Command.{command_of, settings_of}
 use Rattle.xs_words.specs.Refusal.{refusal_of, refused_settings}
 use Rattle.xs_words.specs.Table.{decode_rows, encode_rows}
-use Rattle.xs_words.specs.Words.{bad_place, table_of, word_at}
+use Rattle.xs_words.specs.Words.{bad_place, table_of, word_in}
 use Rattle.xs_words.specs.declared.command.Command.{Command}
 use Rattle.xs_words.specs.declared.command.Command.TheVariants.{Decode, Encode}
 use Rattle.xs_words.specs.declared.command.Refusal.TheVariants as refusal
@@ -27,9 +27,9 @@ not_decode word = by_name (bytes_eq word (codes "encode")) (bytes_eq word (codes
     by_name false true p q e = let same : decode_rows ≡ encode_rows = cc in absurd (omega (arith, ap length same))
 
 -- the answer where the check refuses a setting
-pub setting_refused : (words : List (List ℕ)) (bad : Setting) → bad_place words ≡ None → table_of (word_at words 0) ≡ Some encode_rows
+pub setting_refused : (words : List (List ℕ)) (bad : Setting) → bad_place words ≡ None → table_of (word_in words 0) ≡ Some encode_rows
     → Some bad ≡ first_of (setting_refusals (settings_of words)) → Some (refusal.Setting bad) ≡ refusal_of words
 setting_refused words bad none table first =
-    let asked : Encode (settings_of words) ≡ command_of words = sym (ap (λ (b : Bool). cond b Decode (Encode (settings_of words))) (not_decode (word_at words 0) table)) in
+    let asked : Encode (settings_of words) ≡ command_of words = sym (ap (λ (b : Bool). cond b Decode (Encode (settings_of words))) (not_decode (word_in words 0) table)) in
     ap (λ x. first_some (None ∷ option_map refusal.Setting x ∷ [])) (first ∙ ap (λ (c : Command). first_of (refused_settings c)) asked)
     ∙ ap (λ place. first_some (option_map refusal.Words place ∷ option_map refusal.Setting (first_of (refused_settings (command_of words))) ∷ [])) (sym none)

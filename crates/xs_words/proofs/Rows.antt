@@ -4,7 +4,7 @@ use Rattle.std.specs.List.{find, list_any}
 use Rattle.std.specs.Option.{option_map, option_copied}
 use Rattle.xs_words.specs.Table.{Row}
 use Rattle.xs_words.specs.Words.{name_word, row_named}
-use Rattle.xs_words.specs.Options.{row_of}
+use Rattle.xs_words.specs.Options.{row_of_option}
 use Rattle.xs_words.specs.declared.option.CommandOption.{CommandOption}
 
 -- a step of find, under a map
@@ -21,13 +21,13 @@ pub copied_is : {A : Type 0} (found : Option (Bor A)) → option_copied found �
 copied_is None = refl
 copied_is (Some x) = refl
 
-pub option_named : (options : List CommandOption) (table : List Row) (word : List ℕ) → map row_of options ≡ table
-    → option_map row_of (find (λ (o : CommandOption). bytes_eq word (name_word (row_of o).name)) options) ≡ row_named table word
-option_named options table word same = find-map row_of (λ (row : Row). bytes_eq word (name_word row.name)) options ∙ ap (λ rows. row_named rows word) same
+pub option_named : (options : List CommandOption) (table : List Row) (word : List ℕ) → map row_of_option options ≡ table
+    → option_map row_of_option (find (λ (o : CommandOption). bytes_eq word (name_word (row_of_option o).name)) options) ≡ row_named table word
+option_named options table word same = find-map row_of_option (λ (row : Row). bytes_eq word (name_word row.name)) options ∙ ap (λ rows. row_named rows word) same
 
 any-map : {A B : Type 0} (f : A → B) (p : B → Bool) (xs : List A) → list_any (λ x. p (f x)) xs ≡ list_any p (map f xs)
 any-map f p [] = refl
 any-map f p (x ∷ xs) = ap (λ rest. p (f x) || rest) (any-map f p xs)
 
-pub any_option : (options : List CommandOption) (table : List Row) (test : Row → Bool) → map row_of options ≡ table → list_any (λ (o : CommandOption). test (row_of o)) options ≡ list_any test table
-any_option options table test same = any-map row_of test options ∙ ap (list_any test) same
+pub any_option : (options : List CommandOption) (table : List Row) (test : Row → Bool) → map row_of_option options ≡ table → list_any (λ (o : CommandOption). test (row_of_option o)) options ≡ list_any test table
+any_option options table test same = any-map row_of_option test options ∙ ap (list_any test) same

@@ -2,10 +2,11 @@
 use Rattle.std.specs.Prelude.{ℕ, false, if◌then◌else◌, None, List, [], codes, bytes_eq}
 use Rattle.xs_layout.specs.declared.Format.TheVariants.{Mono}
 use Rattle.xs_layout.specs.declared.Quant.TheVariants.{DeadZone}
+use Rattle.xs_params.specs.declared.settings.Mode.TheVariants.{Slice}
 use Rattle.xs_params.specs.declared.settings.Settings.{Settings}
 use Rattle.xs_words.specs.Table.{Row}
 use Rattle.xs_words.specs.Table as option
-use Rattle.xs_words.specs.Words.{number_of, value_of, word_at}
+use Rattle.xs_words.specs.Words.{decimal_value, value_of, word_in}
 use Rattle.xs_words.specs.declared.command.Command.{Command}
 use Rattle.xs_words.specs.declared.command.Command.TheVariants.{Encode, Decode}
 
@@ -13,6 +14,7 @@ use Rattle.xs_words.specs.declared.command.Command.TheVariants.{Encode, Decode}
 abbrev pub settings_with : (width height nlx nly slice share : ℕ) → Settings
 settings_with width height nlx nly slice share = record {
   shape = record { width = width; height = height; format = Mono; depth = 8 };
+  bits = 20;
   nlx = nlx;
   nly = nly;
   hsl = slice;
@@ -21,7 +23,9 @@ settings_with width height nlx nly slice share = record {
   signs_apart = false;
   weights = None;
   share = share;
+  fill = false;
   chunk = 1400;
+  mode = Slice;
   payload_type = 96;
   ssrc = 1;
   first_timestamp = 0;
@@ -29,11 +33,12 @@ settings_with width height nlx nly slice share = record {
   boxes = [];
   workers = 4;
   feeders = 2;
+  port = 5004;
 }
 
 -- the number that an option is given, or has by default
 abbrev pub given_number : List (List ℕ) → Row → ℕ
-given_number words row = number_of (value_of words row)
+given_number words row = decimal_value (value_of words row)
 
 abbrev pub settings_of : List (List ℕ) → Settings
 settings_of words =
@@ -41,4 +46,4 @@ settings_of words =
 
 -- what words that are a command ask for
 abbrev pub command_of : List (List ℕ) → Command
-command_of words = if bytes_eq (word_at words 0) (codes "decode") then Decode else Encode (settings_of words)
+command_of words = if bytes_eq (word_in words 0) (codes "decode") then Decode else Encode (settings_of words)

@@ -7,17 +7,17 @@ use Rattle.xs_words.specs.declared.option.CommandOption.TheVariants.{Form, Width
 use Rattle.xs_words.specs.declared.option.Verb.{Verb}
 use Rattle.xs_words.specs.declared.option.Verb.TheVariants.{Encode, Decode}
 
-abbrev pub row_of : CommandOption → Row
-row_of Form = option.form
-row_of Width = option.width
-row_of Height = option.height
-row_of Format = option.format
-row_of Nlx = option.nlx
-row_of Nly = option.nly
-row_of Quant = option.quant
-row_of Share = option.share
-row_of Slice = option.slice
+abbrev pub row_of_option : CommandOption → Row
+row_of_option Form = option.form
+row_of_option Width = option.width
+row_of_option Height = option.height
+row_of_option Format = option.format
+row_of_option Nlx = option.nlx
+row_of_option Nly = option.nly
+row_of_option Quant = option.quant
+row_of_option Share = option.share
+row_of_option Slice = option.slice
 
-abbrev pub rows_of : Verb → List Row
-rows_of Encode = encode_rows
-rows_of Decode = decode_rows
+abbrev pub options_of : Verb → List Row
+options_of Encode = encode_rows
+options_of Decode = decode_rows

@@ -7,19 +7,19 @@ use Rattle.xs_lists.specs.First.{first_of}
 use Rattle.xs_lists.specs.Spelling.{upto}
 use Rattle.xs_words.specs.Table.{Kind, Number, Choice, Row, encode_rows, decode_rows}
 
-abbrev pub word_at : List (List ℕ) → ℕ → List ℕ
-word_at words place = slice_index_or words place []
+abbrev pub word_in : List (List ℕ) → ℕ → List ℕ
+word_in words place = slice_index_or words place []
 
 -- the table of a command
 abbrev pub table_of : List ℕ → Option (List Row)
 table_of word = if bytes_eq word (codes "encode") then Some encode_rows else if bytes_eq word (codes "decode") then Some decode_rows else None
 
 -- a number: one to ten decimal digits, and a value of 32 bits
-abbrev pub number_of : List ℕ → ℕ
-number_of word = digits_value 10 word
+abbrev pub decimal_value : List ℕ → ℕ
+decimal_value word = digits_value 10 word
 
 abbrev pub is_number : List ℕ → Bool
-is_number word = nat_le 1 (length word) && nat_le (length word) 10 && all_ascii_digits word && nat_le (number_of word) (2 ^ 32 - 1)
+is_number word = nat_le 1 (length word) && nat_le (length word) 10 && all_ascii_digits word && nat_le (decimal_value word) (2 ^ 32 - 1)
 
 -- the word is a value as its option asks
 abbrev pub is_value : Kind → List ℕ → Bool
@@ -39,7 +39,7 @@ is_name_place place = nat_eq (place % 2) 1
 
 -- the word at the place is this name
 abbrev pub is_name_at : List (List ℕ) → List ℕ → ℕ → Bool
-is_name_at words word place = is_name_place place && bytes_eq (word_at words place) word
+is_name_at words word place = is_name_place place && bytes_eq (word_in words place) word
 
 -- the word stands as a name before the place
 abbrev pub is_named_before : List (List ℕ) → List ℕ → ℕ → Bool
@@ -47,11 +47,11 @@ is_named_before words word place = list_any (is_name_at words word) (upto place)
 
 -- a name is not in the table, or stands for the second time
 abbrev pub is_bad_name : List Row → List (List ℕ) → ℕ → Bool
-is_bad_name table words place = is_none (row_named table (word_at words place)) || is_named_before words (word_at words place) place
+is_bad_name table words place = is_none (row_named table (word_in words place)) || is_named_before words (word_in words place) place
 
 -- a value is not spelled as the option before it asks
 abbrev pub is_bad_value : List Row → List (List ℕ) → ℕ → Bool
-is_bad_value table words place = elim (row_named table (word_at words (place - 1))) [ None ↦ true | Some row ↦ not (is_value row.kind (word_at words place)) ]
+is_bad_value table words place = elim (row_named table (word_in words (place - 1))) [ None ↦ true | Some row ↦ not (is_value row.kind (word_in words place)) ]
 
 abbrev pub is_bad_word : List Row → List (List ℕ) → ℕ → Bool
 is_bad_word table words place = if is_name_place place then is_bad_name table words place else is_bad_value table words place
@@ -69,17 +69,17 @@ abbrev pub end_early : List Row → List (List ℕ) → Bool
 end_early table words = nat_eq (length words % 2) 0 || list_any (is_missing words) table
 
 -- the places after the command
-abbrev pub places_of : List (List ℕ) → List ℕ
-places_of words = range_with_len 1 (length words - 1)
+abbrev pub places_of_words : List (List ℕ) → List ℕ
+places_of_words words = range_with_len 1 (length words - 1)
 
 -- the words after the command, from left to right, each with its place; and then the end
 abbrev pub word_refusals : List Row → List (List ℕ) → List (Bool × ℕ)
-word_refusals table words = map (λ place. (is_bad_word table words place, place)) (places_of words) ++ (end_early table words, length words) ∷ []
+word_refusals table words = map (λ place. (is_bad_word table words place, place)) (places_of_words words) ++ (end_early table words, length words) ∷ []
 
 -- the place of the first word that is not as it should be; there is none exactly where the words are a command
 abbrev pub bad_place : List (List ℕ) → Option ℕ
-bad_place words = elim (table_of (word_at words 0)) [ None ↦ Some 0 | Some table ↦ first_of (word_refusals table words) ]
+bad_place words = elim (table_of (word_in words 0)) [ None ↦ Some 0 | Some table ↦ first_of (word_refusals table words) ]
 
 -- the value of an option: the word after its name, or else its default
 abbrev pub value_of : List (List ℕ) → Row → List ℕ
-value_of words row = elim (name_place words row.name) [ None ↦ unwrap_or row.default [] | Some place ↦ word_at words (place + 1) ]
+value_of words row = elim (name_place words row.name) [ None ↦ unwrap_or row.default [] | Some place ↦ word_in words (place + 1) ]

@@ -6,17 +6,17 @@ ghost use Rattle.xs_lists.specs.First.{first_of};
 ghost use Rattle.xs_params.specs.Check.{setting_refusals};
 ghost use Rattle.xs_words.specs.Command.{command_of, given_number, settings_of, settings_with};
 ghost use Rattle.xs_words.specs.Narrow.{as_asked, narrowed};
-ghost use Rattle.xs_words.specs.Options.{row_of};
+ghost use Rattle.xs_words.specs.Options.{row_of_option};
 ghost use Rattle.xs_words.specs.Refusal.{refusal_of};
 ghost use Rattle.xs_words.specs.Table.{encode_rows};
-ghost use Rattle.xs_words.specs.Words.{bad_place, is_number, table_of, value_of, word_at};
+ghost use Rattle.xs_words.specs.Words.{bad_place, is_number, table_of, value_of, word_in};
 
 use crate::grammar::{bad_place, value_of, verb_of};
 use crate::option::{CommandOption, Verb, number};
 use std::alloc::Global;
 use thiserror::Error;
 use xs_io::Octets;
-use xs_params::{Checked, Field, Format, Quant, Setting, Settings, Shape};
+use xs_params::{Checked, Field, Format, Mode, Quant, Setting, Settings, Shape};
 
 /// What words ask for.
 #[derive(Debug, Drop)]
@@ -62,7 +62,7 @@ pub fn command_of(alloc: Global, words: &[String]) -> Result<Command, Refusal>
 
 /// The settings that words ask for, checked; or the first that is refused, with the value that was asked for.
 fn checked_settings(alloc: Global, words: &[String]) -> Result<Checked, Setting>
-    requires encode { table_of (word_at (map string_bytes words.now) 0) ≡ Some encode_rows }
+    requires encode { table_of (word_in (map string_bytes words.now) 0) ≡ Some encode_rows }
     requires whole { bad_place (map string_bytes words.now) ≡ None }
     ensures refused { result_err result ≡ first_of (setting_refusals (settings_of (map string_bytes words.now))) }
     ensures settings { IfOk result (λ checked. checked ≡ settings_of (map string_bytes words.now)) }
@@ -87,7 +87,7 @@ struct Numbers {
 
 impl Numbers {
     fn given(words: &[String]) -> Numbers
-        requires encode { table_of (word_at (map string_bytes words.now) 0) ≡ Some encode_rows }
+        requires encode { table_of (word_in (map string_bytes words.now) 0) ≡ Some encode_rows }
         requires whole { bad_place (map string_bytes words.now) ≡ None }
         ensures { settings_with result.width result.height result.nlx result.nly result.slice result.share ≡ settings_of (map string_bytes words.now) }
     {
@@ -118,6 +118,7 @@ impl Numbers {
                 format: Format::Mono,
                 depth: 8,
             },
+            bits: 20,
             nlx: u8::try_from(self.nlx).unwrap_or(u8::MAX),
             nly: u8::try_from(self.nly).unwrap_or(u8::MAX),
             hsl: u16::try_from(self.slice).unwrap_or(0),
@@ -126,7 +127,9 @@ impl Numbers {
             signs_apart: false,
             weights: None,
             share: self.share,
+            fill: false,
             chunk: 1400,
+            mode: Mode::Slice,
             payload_type: 96,
             ssrc: 1,
             first_timestamp: 0,
@@ -134,6 +137,7 @@ impl Numbers {
             boxes: Octets::new(alloc),
             workers: 4,
             feeders: 2,
+            port: 5004,
         }
     }
 
@@ -156,8 +160,8 @@ impl Numbers {
 
 /// The number that an option is given, or has by default.
 fn given_number(words: &[String], option: CommandOption) -> u32
-    requires { is_number (value_of (map string_bytes words.now) (row_of option)) ≡ true }
-    ensures { result ≡ given_number (map string_bytes words.now) (row_of option) }
+    requires { is_number (value_of (map string_bytes words.now) (row_of_option option)) ≡ true }
+    ensures { result ≡ given_number (map string_bytes words.now) (row_of_option option) }
 {
     number(value_of(words, option)).unwrap()
 }

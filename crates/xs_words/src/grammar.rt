@@ -3,21 +3,21 @@ ghost use Rattle.std.specs.Prelude.{◌≡◌, ◌<◌, find, length, map, IfSom
 ghost use Rattle.std.specs.Option.{option_map};
 ghost use Rattle.std.specs.List.{list_any};
 ghost use Rattle.std.specs.String.{string_bytes};
-ghost use Rattle.xs_words.specs.Options.{row_of, rows_of};
-ghost use Rattle.xs_words.specs.Words.{bad_place, end_early, is_bad_name, is_bad_value, is_bad_word, is_missing, is_name_at, is_name_place, is_named_before, name_place, places_of, table_of, value_of, word_at};
+ghost use Rattle.xs_words.specs.Options.{row_of_option, options_of};
+ghost use Rattle.xs_words.specs.Words.{bad_place, end_early, is_bad_name, is_bad_value, is_bad_word, is_missing, is_name_at, is_name_place, is_named_before, name_place, places_of_words, table_of, value_of, word_in};
 
 use crate::option::{CommandOption, Verb};
 
 /// The command that the first word begins.
 pub fn verb_of(words: &[String]) -> Option<Verb>
-    ensures { option_map rows_of result ≡ table_of (word_at (map string_bytes words.now) 0) }
+    ensures { option_map options_of result ≡ table_of (word_in (map string_bytes words.now) 0) }
 {
-    Verb::named(word_at(words, 0))
+    Verb::named(word_in(words, 0))
 }
 
 /// The place of the first word that is not as the command asks, or the number of words where they end too early.
 pub fn bad_place(verb: Verb, words: &[String]) -> Option<usize>
-    requires { table_of (word_at (map string_bytes words.now) 0) ≡ Some (rows_of verb) }
+    requires { table_of (word_in (map string_bytes words.now) 0) ≡ Some (options_of verb) }
     ensures { result ≡ bad_place (map string_bytes words.now) }
 {
     match first_bad_word(verb, words) {
@@ -27,8 +27,8 @@ pub fn bad_place(verb: Verb, words: &[String]) -> Option<usize>
 }
 
 /// The word at a place, and an empty one past the end.
-fn word_at(words: &[String], place: usize) -> &str
-    ensures { result.now ≡ word_at (map string_bytes words.now) place }
+fn word_in(words: &[String], place: usize) -> &str
+    ensures { result.now ≡ word_in (map string_bytes words.now) place }
 {
     match words.get(place) {
         Some(word) => word.as_str(),
@@ -38,31 +38,31 @@ fn word_at(words: &[String], place: usize) -> &str
 
 /// The value of an option: the word after its name, or else its default.
 pub fn value_of(words: &[String], option: CommandOption) -> &str
-    ensures { result.now ≡ value_of (map string_bytes words.now) (row_of option) }
+    ensures { result.now ≡ value_of (map string_bytes words.now) (row_of_option option) }
 {
     match name_place(words, option) {
-        Some(place) => word_at(words, place + 1),
+        Some(place) => word_in(words, place + 1),
         None => option.default_value(),
     }
 }
 
 /// The place of the first word after the command that is not as it should be.
 fn first_bad_word(verb: Verb, words: &[String]) -> Option<usize>
-    ensures { result ≡ find (is_bad_word (rows_of verb) (map string_bytes words.now)) (places_of (map string_bytes words.now)) }
+    ensures { result ≡ find (is_bad_word (options_of verb) (map string_bytes words.now)) (places_of_words (map string_bytes words.now)) }
 {
     (1..words.len()).find(|place| is_bad_word(verb, words, *place))
 }
 
 /// Whether the words end where a value is missing, or without a required option.
 fn ends_early(verb: Verb, words: &[String]) -> bool
-    ensures { result ≡ end_early (rows_of verb) (map string_bytes words.now) }
+    ensures { result ≡ end_early (options_of verb) (map string_bytes words.now) }
 {
     words.len() % 2 == 0 || lacks_option(verb, words)
 }
 
 /// Whether a required option is not among the words.
 fn lacks_option(verb: Verb, words: &[String]) -> bool
-    ensures { result ≡ list_any (is_missing (map string_bytes words.now)) (rows_of verb) }
+    ensures { result ≡ list_any (is_missing (map string_bytes words.now)) (options_of verb) }
 {
     verb.options()
         .iter()
@@ -70,21 +70,21 @@ fn lacks_option(verb: Verb, words: &[String]) -> bool
 }
 
 fn is_missing(words: &[String], option: CommandOption) -> bool
-    ensures { result ≡ is_missing (map string_bytes words.now) (row_of option) }
+    ensures { result ≡ is_missing (map string_bytes words.now) (row_of_option option) }
 {
     option.is_required() && name_place(words, option).is_none()
 }
 
 /// The place of an option's name.
 fn name_place(words: &[String], option: CommandOption) -> Option<usize>
-    ensures place { result ≡ name_place (map string_bytes words.now) (row_of option).name }
+    ensures place { result ≡ name_place (map string_bytes words.now) (row_of_option option).name }
     ensures within { IfSome result (λ place. place < length words.now) }
 {
     (0..words.len()).find(|place| is_name_at(words, option.word(), *place))
 }
 
 fn is_bad_word(verb: Verb, words: &[String], place: usize) -> bool
-    ensures { result ≡ is_bad_word (rows_of verb) (map string_bytes words.now) place }
+    ensures { result ≡ is_bad_word (options_of verb) (map string_bytes words.now) place }
 {
     if is_name_place(place) {
         is_bad_name(verb, words, place)
@@ -95,9 +95,9 @@ fn is_bad_word(verb: Verb, words: &[String], place: usize) -> bool
 
 /// Whether the word names no option, or one that was named before.
 fn is_bad_name(verb: Verb, words: &[String], place: usize) -> bool
-    ensures { result ≡ is_bad_name (rows_of verb) (map string_bytes words.now) place }
+    ensures { result ≡ is_bad_name (options_of verb) (map string_bytes words.now) place }
 {
-    let word = word_at(words, place);
+    let word = word_in(words, place);
     verb.option_named(word).is_none() || is_named_before(words, word, place)
 }
 
@@ -110,10 +110,10 @@ fn is_named_before(words: &[String], word: &str, place: usize) -> bool
 
 /// Whether the word is no value of the option before it.
 fn is_bad_value(verb: Verb, words: &[String], place: usize) -> bool
-    ensures { result ≡ is_bad_value (rows_of verb) (map string_bytes words.now) place }
+    ensures { result ≡ is_bad_value (options_of verb) (map string_bytes words.now) place }
 {
-    match verb.option_named(word_at(words, place.saturating_sub(1))) {
-        Some(option) => !option.takes(word_at(words, place)),
+    match verb.option_named(word_in(words, place.saturating_sub(1))) {
+        Some(option) => !option.takes(word_in(words, place)),
         None => true,
     }
 }
@@ -122,7 +122,7 @@ fn is_bad_value(verb: Verb, words: &[String], place: usize) -> bool
 fn is_name_at(words: &[String], name: &str, place: usize) -> bool
     ensures { result ≡ is_name_at (map string_bytes words.now) name.now place }
 {
-    is_name_place(place) && word_at(words, place) == name
+    is_name_place(place) && word_in(words, place) == name
 }
 
 /// Names stand at the odd places, and values at the even ones after them.

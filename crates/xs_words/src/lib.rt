@@ -4,7 +4,5 @@
 mod command;
 mod grammar;
 mod option;
-#[cfg(test)]
-mod tests;
 
 pub use command::{Command, Refusal, command_of};

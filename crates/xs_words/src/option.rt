@@ -2,8 +2,8 @@
 ghost use Rattle.std.specs.Prelude.{◌≡◌, ◌++◌, codes, if◌then◌else◌, None, Some, is_none, map, unwrap_or, []};
 ghost use Rattle.std.specs.Option.{option_map};
 ghost use Rattle.std.specs.Str.{all_ascii_digits};
-ghost use Rattle.xs_words.specs.Options.{row_of, rows_of};
-ghost use Rattle.xs_words.specs.Words.{is_number, is_value, name_word, number_of, row_named, table_of};
+ghost use Rattle.xs_words.specs.Options.{row_of_option, options_of};
+ghost use Rattle.xs_words.specs.Words.{is_number, is_value, name_word, decimal_value, row_named, table_of};
 
 /// What a command does: its first word.
 #[derive(Clone, Copy, Debug, PartialEq, Eq)]
@@ -15,7 +15,7 @@ pub enum Verb {
 impl Verb {
     /// The command that a word begins.
     pub fn named(word: &str) -> Option<Verb>
-        ensures { option_map rows_of result ≡ table_of word.now }
+        ensures { option_map options_of result ≡ table_of word.now }
     {
         if word == "encode" {
             Some(Verb::Encode)
@@ -28,7 +28,7 @@ impl Verb {
 
     /// The options of the command.
     pub fn options(self) -> &'static [CommandOption]
-        ensures { map row_of result.now ≡ rows_of self }
+        ensures { map row_of_option result.now ≡ options_of self }
     {
         match self {
             Verb::Encode => &CommandOption::ENCODE,
@@ -38,7 +38,7 @@ impl Verb {
 
     /// The option that a word names.
     pub fn option_named(self, word: &str) -> Option<CommandOption>
-        ensures { option_map row_of result ≡ row_named (rows_of self) word.now }
+        ensures { option_map row_of_option result ≡ row_named (options_of self) word.now }
     {
         self.options()
             .iter()
@@ -78,7 +78,7 @@ impl CommandOption {
 
     /// The word that names the option.
     pub fn word(self) -> &'static str
-        ensures { result.now ≡ name_word (row_of self).name }
+        ensures { result.now ≡ name_word (row_of_option self).name }
     {
         match self {
             CommandOption::Form => "--form",
@@ -95,14 +95,14 @@ impl CommandOption {
 
     /// Whether the words are no command without the option.
     pub fn is_required(self) -> bool
-        ensures { result ≡ is_none (row_of self).default }
+        ensures { result ≡ is_none (row_of_option self).default }
     {
         self != CommandOption::Slice
     }
 
     /// The value of the option where it is not given.
     pub fn default_value(self) -> &'static str
-        ensures { result.now ≡ unwrap_or (row_of self).default [] }
+        ensures { result.now ≡ unwrap_or (row_of_option self).default [] }
     {
         match self {
             CommandOption::Slice => "4",
@@ -112,7 +112,7 @@ impl CommandOption {
 
     /// Whether a word is a value of the option.
     pub fn takes(self, value: &str) -> bool
-        ensures { result ≡ is_value (row_of self).kind value.now }
+        ensures { result ≡ is_value (row_of_option self).kind value.now }
     {
         match self {
             CommandOption::Form => value == "xs",
@@ -130,7 +130,7 @@ impl CommandOption {
 
 /// The number that a word spells: one to ten decimal digits, and a value of 32 bits.
 pub fn number(word: &str) -> Option<u32>
-    ensures { result ≡ (if is_number word.now then Some (number_of word.now) else None) }
+    ensures { result ≡ (if is_number word.now then Some (decimal_value word.now) else None) }
 {
     if word.len() > 10 || !has_only_digits(word) {
         return None;

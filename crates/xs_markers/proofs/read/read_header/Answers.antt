@@ -3,9 +3,9 @@ use Rattle.std.proofs.Common.{◌≡◌, ℕ, Some, Ok, Err, Result, IfErr, leng
 use Rattle.xs_lists.specs.Spelling.{BeginsWith}
 use Rattle.xs_params.specs.declared.header.Header.{Header}
 use Rattle.xs_grammar.specs.Header.{IsHeaderFront}
-use Rattle.xs_grammar.specs.Slice.{slh}
+use Rattle.xs_params.specs.Markers.{slh}
 use Rattle.xs_decoding.specs.Built.{IsBuiltHeader}
-use Rattle.xs_markers.specs.Reading.{body_at, picture_at, table_size, end_of, weights_of, header_of, head_fault}
+use Rattle.xs_markers.specs.Reading.{segment_body_at, picture_at, table_size, end_of, weights_of, header_of_fields, head_fault}
 use Rattle.xs_markers.proofs.Cut.{IsBytes}
 use Rattle.xs_markers.proofs.Refusals.{some_none}
 use Rattle.xs_markers.proofs.Unrefused.{IsUnrefused, unrefused, no_head_fault}
@@ -17,27 +17,27 @@ use Rattle.xs_markers.proofs.read.read_header.Goals as goal
 pub weights_of-requires : goal.weights_of-requires
 weights_of-requires c = record { few = omega (arith, ap length c.in_ok-picture.ensures.weights, few_bytes c.args.bytes.now (unrefused c.args.bytes.now (sym c.in_ok-picture.ensures.first))) }
 
-pub returns-in-Ok-clause-read : goal.returns-in-Ok-clause-read
-returns-in-Ok-clause-read c =
+pub returns-clause-read : goal.returns-clause-read
+returns-clause-read c =
     let bytes = c.args.bytes.now in
     let small : IsBytes bytes = λ i. omega (arith, c.type_inv.bytes i) in
     let u : IsUnrefused bytes = unrefused bytes (sym c.in_ok-picture.ensures.first) in
     let picture = picture_at bytes in
-    let header : c.header.result ≡ header_of picture (weights_of (body_at bytes 40 (table_size picture))) =
-    c.header.ensures.header ∙ ap (λ p. header_of p c.in-Ok.weights) c.in_ok-picture.ensures.picture
-    ∙ ap (header_of picture) (c.in-Ok.ensures.weights ∙ ap weights_of c.in_ok-picture.ensures.weights) in
+    let header : c.header.result ≡ header_of_fields picture (weights_of (segment_body_at bytes 40 (table_size picture))) =
+    c.header.ensures.header ∙ ap (λ p. header_of_fields p c.in_ok-weights.weights) c.in_ok-picture.ensures.picture
+    ∙ ap (header_of_fields picture) (c.in_ok-weights.ensures.weights ∙ ap weights_of c.in_ok-picture.ensures.weights) in
     let end : c.end.result ≡ end_of picture = c.end.ensures ∙ ap end_of c.in_ok-picture.ensures.picture in
     subst (λ n. IsBuiltHeader c.header.result (take n bytes)) (sym end) (subst (λ h. IsBuiltHeader h (take (end_of picture) bytes)) (sym header) (header_read bytes small u))
 
-pub returns-in-Ok-clause-within : goal.returns-in-Ok-clause-within
-returns-in-Ok-clause-within c =
+pub returns-clause-within : goal.returns-clause-within
+returns-clause-within c =
     let bytes = c.args.bytes.now in
     let end : c.end.result ≡ end_of (picture_at bytes) = c.end.ensures ∙ ap end_of c.in_ok-picture.ensures.picture in
     let whole = (unrefused bytes (sym c.in_ok-picture.ensures.first)).wgt.whole in
     omega (arith, end, whole)
 
-pub returns-in-Ok-clause-next : goal.returns-in-Ok-clause-next
-returns-in-Ok-clause-next c =
+pub returns-clause-next : goal.returns-clause-next
+returns-clause-next c =
     let bytes = c.args.bytes.now in
     let small : IsBytes bytes = λ i. omega (arith, c.type_inv.bytes i) in
     let end : c.end.result ≡ end_of (picture_at bytes) = c.end.ensures ∙ ap end_of c.in_ok-picture.ensures.picture in

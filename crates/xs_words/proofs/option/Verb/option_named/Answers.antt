@@ -2,7 +2,7 @@ use Rattle.std.proofs.Common.{rules, ◌∙◌, ap, tests, bytes_eq}
 use Rattle.std.proofs.lemmas.Iterator.{YieldsList-from_slice}
 use Rattle.std.proofs.lemmas.Iterator.Search.{find_from_yields_List}
 use Rattle.std.specs.Option.{option_map}
-use Rattle.xs_words.specs.Options.{row_of, rows_of}
+use Rattle.xs_words.specs.Options.{row_of_option, options_of}
 use Rattle.xs_words.specs.Words.{name_word}
 use Rattle.xs_words.specs.declared.option.CommandOption.{CommandOption}
 use Rattle.xs_words.proofs.Rows.{option_named, copied_is}
@@ -11,5 +11,5 @@ use Rattle.xs_words.proofs.option.Verb.option_named.Goals as goal
 pub returns : goal.returns
 returns c =
     let options = c.options.result.now in
-    let found = find_from_yields_List (λ (o : CommandOption). bytes_eq c.args.word.now (name_word (row_of o).name)) _ _ c.find.result c.find.ensures.ran (YieldsList-from_slice options cc) (λ x b q k. search (rules, tests)) in
-    ap (option_map row_of) (c.copied.ensures ∙ copied_is c.find.result ∙ found) ∙ option_named options (rows_of c.args.self) c.args.word.now c.options.ensures
+    let found = find_from_yields_List (λ (o : CommandOption). bytes_eq c.args.word.now (name_word (row_of_option o).name)) _ _ c.find.result c.find.ensures.ran (YieldsList-from_slice options cc) (λ x b q k. search (rules, tests)) in
+    ap (option_map row_of_option) (c.copied.ensures ∙ copied_is c.find.result ∙ found) ∙ option_named options (options_of c.args.self) c.args.word.now c.options.ensures
