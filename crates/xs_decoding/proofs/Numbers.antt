@@ -6,7 +6,7 @@ use Rattle.xs_layout.specs.declared.Format.TheVariants.{Mono, C422, C444}
 use Rattle.xs_layout.specs.Geometry.{ll, band_types, components_of}
 use Rattle.xs_params.specs.declared.header.Header.{Header}
 use Rattle.xs_signal.specs.Wavelet.{Split, band_plane}
-use Rattle.xs_grammar.specs.Geometry.{bands_of, band_component, band_type_of, band_width_of, band_height_of}
+use Rattle.xs_params.specs.Geometry.{bands_of, band_component, band_type_of, band_width_of, band_height_of}
 use Rattle.xs_rate.specs.Coefficients.{Rows, signal_of}
 use Rattle.xs_wave.specs.Bands.{type_at, band_count, first_number, columns_in, rows_in}
 use Rattle.xs_wave.proofs.Types.{deep_side, first_wide, first_deep, wide_type, deep_type, all_counted}
@@ -107,7 +107,7 @@ number_inside C444 band types inside = omega (arith, inside)
 
 pub bands_by_type : BandsByType
 bands_by_type h rows band accepted inside =
-    let deep : h.nly ≤ h.nlx = omega (arith, accepted.nly) in
+    let deep : h.nly ≤ h.nlx = omega (arith, accepted.geometry.nly) in
     let component = band_component h band in
     let number = band / components_of h.shape.format in
     let less : number < band_count (split_of h component) = omega (arith, number_inside h.shape.format band (2 * h.nly + h.nlx + 1) inside, all_counted (split_of h component) deep) in

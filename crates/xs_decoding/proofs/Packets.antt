@@ -12,7 +12,7 @@ use Rattle.xs_layout.specs.Geometry.{groups_of, components_of, PacketPlace}
 use Rattle.xs_spelling.specs.Counts.{Line, flag_bits, SpellsCounts, SpellsRawCounts}
 use Rattle.xs_spelling.specs.Data.{SpellsData, sign_bits}
 use Rattle.xs_spelling.specs.Laws.{SameBefore}
-use Rattle.xs_grammar.specs.Geometry.{bands_of, band_width_of, precinct_lines, packet_bands, packet_places, packets_of, has_line}
+use Rattle.xs_params.specs.Geometry.{bands_of, band_width_of, precinct_lines, packet_bands, packet_places, packets_of, has_line}
 use Rattle.xs_grammar.specs.Packet.{IsPacket, SpellsBandCounts}
 use Rattle.xs_grammar.specs.Precinct.{Content, precinct_of, line_truncation, coded_line, SpellsPacket}
 use Rattle.xs_grammar.specs.Laws.{SameLine, SameBandLine}
@@ -20,7 +20,15 @@ use Rattle.xs_grammar.proofs.Bands.{wide_band, deep_band}
 use Rattle.xs_grammar.proofs.OnePacket.{one_packet}
 use Rattle.xs_grammar.proofs.OneSlice.{line_in, truncation_at, wide_place, deep_place, line_places, level_places}
 use Rattle.xs_decoding.specs.Built.{IsBuiltPacket}
-use Rattle.xs_decoding.specs.Laws.{AgreeOnPrecinct}
+
+-- ---- contents
+
+-- two contents that agree on a precinct and on all lines of it
+pub record AgreeOnPrecinct (h : Header) (content other : Content) (precinct : ℕ) : Type 0 where
+  pub q : content.q precinct ≡ other.q precinct
+  pub r : content.r precinct ≡ other.r precinct
+  pub count : (band line : ℕ) → precinct_of h band line ≡ precinct → content.count band line ≡ other.count band line
+  pub value : (band line : ℕ) → precinct_of h band line ≡ precinct → content.value band line ≡ other.value band line
 
 -- ---- lines
 

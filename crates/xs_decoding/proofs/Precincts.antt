@@ -1,18 +1,18 @@
 -- A precinct of the form that is read: where it ends, what it speaks of, and that its bytes are of one content.
-use Rattle.std.proofs.Common.{◌≡◌, ℕ, List, [], ◌∷◌, ◌++◌, map, length, refl, sym, ap, subst, ◌∙◌, append_assoc}
+use Rattle.std.proofs.Common.{◌≡◌, ℕ, ◌≤◌, List, [], ◌∷◌, ◌++◌, map, length, refl, sym, ap, subst, ◌∙◌, append_assoc}
 use Rattle.std.specs.List.{AllByRecursion}
 use Rattle.xs_params.specs.declared.header.Header.{Header}
-use Rattle.xs_lists.specs.Bits.{bits_of_fields, HaveRoom}
+use Rattle.xs_lists.specs.Bits.{bits_of_fields, FieldsFit}
 use Rattle.xs_lists.specs.Spelling.{upto, SpellsPadded}
 use Rattle.xs_lists.proofs.Each.{each-same, each-agree}
 use Rattle.xs_lists.proofs.Cut.{append_cut, all-each, padded_agrees}
 use Rattle.xs_layout.specs.Geometry.{PacketPlace}
-use Rattle.xs_grammar.specs.Geometry.{bands_of, packet_bands, packets_of}
+use Rattle.xs_params.specs.Geometry.{bands_of, packet_bands, packets_of}
 use Rattle.xs_grammar.specs.Precinct.{Content, precinct_fields, IsPrecinct, SpellsPacket}
 use Rattle.xs_grammar.specs.Laws.{SameBandLine}
-use Rattle.xs_decoding.specs.Built.{IsBuiltPacket}
-use Rattle.xs_decoding.specs.Laws.{PrecinctEnds, PrecinctIsLocal, OnePrecinct}
-use Rattle.xs_decoding.proofs.Packets.{IsHere, places_here, place_moves, built_moves, packet_one}
+use Rattle.xs_decoding.specs.Built.{IsBuiltPacket, IsBuiltPrecinct}
+use Rattle.xs_decoding.specs.Laws.{PrecinctEnds, OnePrecinct}
+use Rattle.xs_decoding.proofs.Packets.{AgreeOnPrecinct, IsHere, places_here, place_moves, built_moves, packet_one}
 
 -- ---- headers
 
@@ -44,14 +44,19 @@ precinct_ends h content other precinct a b y z p q e = (heads_agree h content ot
 
 -- ---- a precinct speaks of its own part of the content
 
-pub precinct_is_local : PrecinctIsLocal
-precinct_is_local h content other precinct bytes below agree p = record {
+-- whatever its lines above are
+abbrev pub BuiltIsLocal : Type 0
+BuiltIsLocal = (h : Header) (content other : Content) (precinct : ℕ) (bytes : List ℕ) → h.nly ≤ h.nlx → AgreeOnPrecinct h content other precinct
+    → IsBuiltPrecinct h content precinct bytes → IsBuiltPrecinct h other precinct bytes
+
+pub built_is_local : BuiltIsLocal
+built_is_local h content other precinct bytes below agree p = record {
   spelled = record {
     head = p.spelled.head;
     body = p.spelled.body;
     joined = p.spelled.joined;
     mode = p.spelled.mode;
-    room = subst HaveRoom fields p.spelled.room;
+    room = subst FieldsFit fields p.spelled.room;
     headed = subst (λ f. SpellsPadded p.spelled.head (bits_of_fields f)) fields p.spelled.headed;
     filled = (
       p.spelled.filled.0,

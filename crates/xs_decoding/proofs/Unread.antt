@@ -15,7 +15,7 @@ use Rattle.xs_lists.proofs.Bits.{length-bits_of}
 use Rattle.xs_lists.proofs.Cut.{same_head, all-each}
 use Rattle.xs_lists.proofs.Each.{each-split, each-agree}
 use Rattle.xs_layout.specs.Geometry.{PacketPlace}
-use Rattle.xs_grammar.specs.Geometry.{bands_of, packet_bands}
+use Rattle.xs_params.specs.Geometry.{bands_of, packet_bands}
 use Rattle.xs_grammar.specs.Packet.{packet_fields}
 use Rattle.xs_grammar.specs.Precinct.{Content, precinct_fields, IsPrecinct}
 use Rattle.xs_grammar.specs.Laws.{SameBandLine}
@@ -191,7 +191,7 @@ built_is_built h content precinct packet part more accepted plain apart p u = at
   where
     at : ((packet ≡ 0) × HasMode h (part ++ more)) ⊎ HasRawCounts h precinct (part ++ more) packet → ⊥
     at (inl c) = no_mode h content precinct part more p c.1
-    at (inr c) = no_raw h content precinct packet part more (omega (arith, accepted.nly)) p c
+    at (inr c) = no_raw h content precinct packet part more (omega (arith, accepted.geometry.nly)) p c
 
 -- ---- no two packets of a precinct are of such a form
 

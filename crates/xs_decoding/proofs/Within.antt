@@ -14,7 +14,7 @@ use Rattle.xs_signal.specs.Stripe.{IsSplit, rows_at}
 use Rattle.xs_signal.specs.Picture.{each_entry, synthesised, uncoloured, one_of}
 use Rattle.xs_signal.specs.Samples.{scale_out}
 use Rattle.xs_signal.proofs.StripeLaws.{splits_where_large}
-use Rattle.xs_grammar.specs.Header.{IsAccepted}
+use Rattle.xs_params.specs.Accepted.{IsAccepted}
 use Rattle.xs_rate.specs.Coefficients.{Rows, signal_of}
 use Rattle.xs_wave.specs.Within.{SameWithin as SamePlanes, SameBandsWithin}
 use Rattle.xs_wave.specs.Bands.{IsBandSize, IsComponent, band_count, first_number}
@@ -22,7 +22,7 @@ use Rattle.xs_wave.proofs.Types.{first_wide, first_deep, all_counted, first_next
 use Rattle.xs_wave.proofs.BandSizes.{lowest_size, wide_size, deep_size}
 use Rattle.xs_wave.proofs.WithinLaws.{rows_deep, rows_kept, transforms_within}
 use Rattle.xs_decoding.specs.Decoded.{band_number, component_bands}
-use Rattle.xs_decoding.specs.Laws.{SameWithin, DecodedWithin}
+use Rattle.xs_decoding.specs.Laws.{SameRowsWithin, DecodedWithin}
 use Rattle.xs_decoding.proofs.Numbers.{split_of, number_below, width_of_number, height_of_number}
 
 -- ---- components
@@ -54,14 +54,14 @@ component_most C444 width (suc (suc (suc component))) there some = absurd (omega
 -- each component of an accepted header is one as pictures have it
 pub accepted_component : (h : Header) (component : ℕ) → IsAccepted h → component < components_of h.shape.format → IsComponent (split_of h component)
 accepted_component h component accepted there = record {
-  some = omega (arith, accepted.nlx);
-  few = omega (arith, accepted.nlx);
-  two = omega (arith, accepted.nly);
-  deep = omega (arith, accepted.nly);
-  wide = omega (arith, accepted.narrow, narrower h.shape.format h.shape.width component there);
-  high = omega (arith, accepted.height);
-  width = omega (arith, accepted.width, component_most h.shape.format h.shape.width component there accepted.width.0);
-  height = omega (arith, accepted.height);
+  some = omega (arith, accepted.geometry.nlx);
+  few = omega (arith, accepted.geometry.nlx);
+  two = omega (arith, accepted.geometry.nly);
+  deep = omega (arith, accepted.geometry.nly);
+  wide = omega (arith, accepted.geometry.narrow, narrower h.shape.format h.shape.width component there);
+  high = omega (arith, accepted.geometry.shape.height);
+  width = omega (arith, accepted.geometry.shape.width, component_most h.shape.format h.shape.width component there accepted.geometry.shape.width.0);
+  height = omega (arith, accepted.geometry.shape.height);
 }
 
 four_lines : (down : ℕ) → down ≤ 2 → 2 ^ down ≤ 4
@@ -79,7 +79,7 @@ component_splits s c = splits_where_large s c.wide (omega (arith, four_lines s.d
 abbrev entries : (ℤ → ℤ) → Header → Rows → ℕ → ℕ → ℕ → ℕ → ℤ
 entries f h rows component number row column = f (rows (band_number h number component) row column)
 
-band_same : (f : ℤ → ℤ) (h : Header) (rows other : Rows) (component number width height : ℕ) → h.nly ≤ h.nlx → SameWithin h rows other → component < components_of h.shape.format
+band_same : (f : ℤ → ℤ) (h : Header) (rows other : Rows) (component number width height : ℕ) → h.nly ≤ h.nlx → SameRowsWithin h rows other → component < components_of h.shape.format
     → number < band_count (split_of h component) → IsBandSize (split_of h component) number width height
     → SamePlanes width height (entries f h rows component number) (entries f h other component number)
 band_same f h rows other component number width height deep same there inside size row column above within =
@@ -122,7 +122,7 @@ hl_room s level deep inside =
     ]
 
 -- the bands of a component are the same where they are
-pub bands_same : (f : ℤ → ℤ) (h : Header) (rows other : Rows) (component : ℕ) → h.nly ≤ h.nlx → SameWithin h rows other → component < components_of h.shape.format
+pub bands_same : (f : ℤ → ℤ) (h : Header) (rows other : Rows) (component : ℕ) → h.nly ≤ h.nlx → SameRowsWithin h rows other → component < components_of h.shape.format
     → SameBandsWithin (split_of h component) (each_entry f (component_bands h rows component)) (each_entry f (component_bands h other component))
 bands_same f h rows other component deep same there =
     let s = split_of h component in
@@ -142,12 +142,12 @@ bands_same f h rows other component deep same there =
 abbrev pub raised : Header → Rows → ℕ → Bands
 raised h rows component = each_entry (λ z. z *ℤ pos (2 ^ h.fq)) (component_bands h rows component)
 
-pub planes_same : (h : Header) (rows other : Rows) (component row column : ℕ) → IsAccepted h → SameWithin h rows other → IsPlace h.shape component row column
+pub planes_same : (h : Header) (rows other : Rows) (component row column : ℕ) → IsAccepted h → SameRowsWithin h rows other → IsPlace h.shape component row column
     → synthesised (signal_of h) (raised h rows) component row column ≡ synthesised (signal_of h) (raised h other) component row column
 planes_same h rows other component row column accepted same place =
     let there = place.row_there.component_there in
     transforms_within.joined (split_of h component) (raised h rows component) (raised h other component) (component_splits (split_of h component) (accepted_component h component accepted there))
-    (bands_same (λ z. z *ℤ pos (2 ^ h.fq)) h rows other component (omega (arith, accepted.nly)) same there) row column place.row_there.row_there place.column_there
+    (bands_same (λ z. z *ℤ pos (2 ^ h.fq)) h rows other component (omega (arith, accepted.geometry.nly)) same there) row column place.row_there.row_there place.column_there
 
 -- all components of such a format are as wide as the picture
 pub full_width : (shape : Shape) (component : ℕ) → shape.format ≡ C444 → width_of shape component ≡ shape.width
@@ -163,7 +163,7 @@ colour_place h component other row column full less place = record {
   column_there = subst (λ w. column < w) (full_width h.shape component full ∙ sym (full_width h.shape other full)) place.column_there;
 }
 
-turned_same : (h : Header) (rows other : Rows) (component row column : ℕ) (colour : Bool) → h.colour ≡ colour → IsAccepted h → SameWithin h rows other → IsPlace h.shape component row column
+turned_same : (h : Header) (rows other : Rows) (component row column : ℕ) (colour : Bool) → h.colour ≡ colour → IsAccepted h → SameRowsWithin h rows other → IsPlace h.shape component row column
     → (if colour then uncoloured (synthesised (signal_of h) (raised h rows)) else synthesised (signal_of h) (raised h rows)) component row column
     ≡ (if colour then uncoloured (synthesised (signal_of h) (raised h other)) else synthesised (signal_of h) (raised h other)) component row column
 turned_same h rows other component row column true is accepted same place =

@@ -8,7 +8,7 @@ use Rattle.xs_layout.specs.declared.Format.TheVariants.{Mono}
 use Rattle.xs_layout.specs.declared.Quant.TheVariants.{DeadZone}
 use Rattle.xs_layout.specs.Geometry.{PacketPlace}
 use Rattle.xs_params.specs.declared.header.Header.{Header}
-use Rattle.xs_grammar.specs.Geometry.{bands_of, packets_of, precincts_of, slice_count}
+use Rattle.xs_params.specs.Geometry.{bands_of, packets_of, precincts_of, slice_count}
 use Rattle.xs_grammar.specs.Header.{IsHeader, Segment, cap_code, pih_code, cdt_code, wgt_code}
 use Rattle.xs_grammar.specs.Precinct.{Content, IsPrecinct, SpellsPacket}
 use Rattle.xs_grammar.specs.Slice.{IsSlice, slice_head}

@@ -3,10 +3,10 @@ use Rattle.std.specs.Prelude.{◌≡◌, ℕ, ◌<◌, ◌≤◌, false, List, �
 use Rattle.xs_params.specs.declared.header.Header.{Header}
 use Rattle.xs_params.specs.Picture.{IsPlace}
 use Rattle.xs_signal.specs.Wavelet.{band_plane}
-use Rattle.xs_grammar.specs.Geometry.{bands_of, band_component, band_type_of, band_width_of, band_height_of}
-use Rattle.xs_grammar.specs.Header.{IsAccepted}
+use Rattle.xs_params.specs.Geometry.{bands_of, band_component, band_type_of, band_width_of, band_height_of}
+use Rattle.xs_params.specs.Accepted.{IsAccepted}
 use Rattle.xs_rate.specs.Coefficients.{Rows}
-use Rattle.xs_grammar.specs.Precinct.{Content, precinct_of}
+use Rattle.xs_grammar.specs.Precinct.{Content}
 use Rattle.xs_grammar.specs.Laws.{SamePrecinct}
 use Rattle.xs_decoding.specs.Built.{IsBuiltPrecinct, IsUnbuilt}
 use Rattle.xs_decoding.specs.Decoded.{component_bands, decoded_sample}
@@ -17,13 +17,13 @@ BandsByType = (h : Header) (rows : Rows) (band : ℕ) → IsAccepted h → band 
     → band_plane (component_bands h rows (band_component h band)) (band_type_of h band) ≡ rows band
 
 -- two rows of coefficients that are the same where the bands are
-abbrev pub SameWithin : Header → Rows → Rows → Type 0
-SameWithin h rows other =
+abbrev pub SameRowsWithin : Header → Rows → Rows → Type 0
+SameRowsWithin h rows other =
     (band line column : ℕ) → band < bands_of h → line < band_height_of h band → column < band_width_of h band → rows band line column ≡ other band line column
 
 -- have the same picture
 abbrev pub DecodedWithin : Type 0
-DecodedWithin = (h : Header) (rows other : Rows) (component row column : ℕ) → IsAccepted h → SameWithin h rows other → IsPlace h.shape component row column
+DecodedWithin = (h : Header) (rows other : Rows) (component row column : ℕ) → IsAccepted h → SameRowsWithin h rows other → IsPlace h.shape component row column
     → decoded_sample h rows component row column ≡ decoded_sample h other component row column
 
 -- a precinct ends where its header says, whatever it holds
@@ -31,19 +31,7 @@ abbrev pub PrecinctEnds : Type 0
 PrecinctEnds = (h : Header) (content other : Content) (precinct : ℕ) (a b y z : List ℕ) → IsBuiltPrecinct h content precinct a → IsBuiltPrecinct h other precinct b
     → a ++ y ≡ b ++ z → y ≡ z
 
--- two contents that agree on a precinct and on all lines of it
-pub record AgreeOnPrecinct (h : Header) (content other : Content) (precinct : ℕ) : Type 0 where
-  pub q : content.q precinct ≡ other.q precinct
-  pub r : content.r precinct ≡ other.r precinct
-  pub count : (band line : ℕ) → precinct_of h band line ≡ precinct → content.count band line ≡ other.count band line
-  pub value : (band line : ℕ) → precinct_of h band line ≡ precinct → content.value band line ≡ other.value band line
-
--- a precinct of the form that is read speaks of its own part of the content alone
-abbrev pub PrecinctIsLocal : Type 0
-PrecinctIsLocal = (h : Header) (content other : Content) (precinct : ℕ) (bytes : List ℕ) → h.nly ≤ h.nlx → AgreeOnPrecinct h content other precinct
-    → IsBuiltPrecinct h content precinct bytes → IsBuiltPrecinct h other precinct bytes
-
--- the bytes of a precinct of this form are of one content there
+-- the bytes of a precinct of the form that is read are of one content there
 abbrev pub OnePrecinct : Type 0
 OnePrecinct = (h : Header) (content other : Content) (precinct : ℕ) (a b y z : List ℕ) → h.nly ≤ h.nlx → IsBuiltPrecinct h content precinct a → IsBuiltPrecinct h other precinct b
     → a ++ y ≡ b ++ z → SamePrecinct h content other precinct

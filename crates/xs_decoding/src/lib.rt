@@ -1,7 +1,7 @@
 //! What a codestream decodes to, and which codestreams are read: definitions, and laws that hold of them.
 #![tactic(auto)]
 
-ghost use Rattle.xs_decoding.specs.Laws.{BandsByType, BuiltIsBuilt, DecodedWithin, OnePrecinct, PrecinctEnds, PrecinctIsLocal};
+ghost use Rattle.xs_decoding.specs.Laws.{BandsByType, BuiltIsBuilt, DecodedWithin, OnePrecinct, PrecinctEnds};
 
 /// The plane of each band is found by the band's type.
 pub fn bands_by_type()
@@ -16,11 +16,6 @@ pub fn decoded_within()
 /// A precinct of the form that is read ends where its header says.
 pub fn precinct_ends()
     ensures { PrecinctEnds }
-{}
-
-/// It speaks of its own part of the content alone.
-pub fn precinct_is_local()
-    ensures { PrecinctIsLocal }
 {}
 
 /// The bytes of it are of one content, whatever follows them.

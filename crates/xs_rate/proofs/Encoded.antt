@@ -24,27 +24,29 @@ use Rattle.xs_params.specs.Stream.{Stream, stream_bytes}
 use Rattle.xs_signal.specs.Quantiser.{quantised, sent, with_sign_of}
 use Rattle.xs_signal.proofs.Laws.{quantised_fits}
 use Rattle.xs_signal.proofs.Magnitudes.{size_signed}
-use Rattle.xs_grammar.specs.Geometry.{bands_of, slice_count}
+use Rattle.xs_params.specs.Geometry.{bands_of, precincts_of, slice_count}
 use Rattle.xs_grammar.specs.Precinct.{Content, weight_of}
 use Rattle.xs_grammar.specs.Slice.{IsSlice}
-use Rattle.xs_grammar.specs.Header.{IsAccepted}
+use Rattle.xs_params.proofs.Accepted.{header_accepted}
 use Rattle.xs_grammar.specs.Codestream.{IsCodestream}
-use Rattle.xs_grammar.specs.Coded.{header_bytes, HasRoom, IsWritableLine}
+use Rattle.xs_grammar.specs.Coded.{no_filler, header_bytes, HasRoom, IsWritableLine}
 use Rattle.xs_grammar.proofs.Coded.{written_slice, writable_everywhere}
 use Rattle.xs_grammar.proofs.CodedStream.{written_header}
 use Rattle.xs_grammar.proofs.Local.{slice_is_local}
+use Rattle.std.proofs.lemmas.List.Sums.{sum_by-cons}
 use Rattle.xs_grammar.proofs.Sizes.{size_of_slice}
-use Rattle.xs_rate.specs.Coefficients.{Rows, rows_of}
+use Rattle.xs_rate.specs.Coefficients.{Rows, rows_of_picture}
 use Rattle.xs_rate.specs.Content.{planes_of, greatest_of, cut_of, content_of}
-use Rattle.xs_rate.specs.Built.{candidates}
-use Rattle.xs_rate.specs.Encoding.{IsBuilt, with_length, content_at, slice_at, slices_at, size_at, fields_fit_at, fits_at, coarsest, chosen_candidate, encoding_of_rows, encoding_of}
-use Rattle.xs_rate.specs.Laws.{AreSmall}
+use Rattle.xs_rate.specs.Encoding.{candidates, mode_of, with_length, content_at, slice_at, slices_at, size_at, fields_fit_at, fits_at, coarsest, chosen_candidate, encoding_of_rows, encoding_of}
+use Rattle.xs_rate.specs.Laws.{AreSmall, HasCountsInRange}
 use Rattle.xs_rate.specs.Encoded.{chosen_stream, NoneOver, chosen_content, stated_header, IsEncoding, EncodedInGrammar}
 use Rattle.xs_rate.proofs.Digits.{digits-most}
-use Rattle.xs_rate.proofs.Finest.{planes-room}
+use Rattle.xs_rate.proofs.Planes.{planes-room}
+use Rattle.xs_rate.proofs.Headers.{components-few, few-bands, header-size}
+use Rattle.xs_rate.proofs.Fields.{slices_fit}
 use Rattle.xs_rate.proofs.Rows.{small_rows}
-use Rattle.xs_rate.proofs.Headers.{built_header, few_bands, length-built}
-use Rattle.xs_rate.proofs.Fits.{finest_fits, lengths-most, joined-stream, length-stream}
+use Rattle.xs_layout.specs.Geometry.{components_of}
+use Rattle.xs_rate.proofs.Fits.{lengths-most, joined-stream, length-stream}
 use Rattle.xs_rate.proofs.FirstOver.{cases_over, same_stream, no_both}
 
 -- Each line of small rows can be written, at every candidate
@@ -68,13 +70,38 @@ line-writable h rows candidate small band line = record {
       sent-small h (planes_of (rows band line) (column / 4)) (cut_of h candidate band line) (rows band line column) (planes-room (rows band line) (small band line) column);
 }
 
+mode-few : (h : Header) (content : Content) (precinct band : ℕ) → mode_of h content precinct band < 4
+mode-few h content precinct band = omega arith
+
+-- each count is in range and not below the truncation
+pub counts_in_range : (h : Header) (rows : Rows) (candidate : ℕ → Candidate) → HasCountsInRange h (content_of h rows candidate)
+counts_in_range h rows candidate = record {
+  most = λ band line group. omega (arith, digits-most (greatest_of (rows band line) group));
+  cut = λ band line group. omega arith;
+}
+
+-- all lengths fit, at every candidate
+pub every-fits : (s : Settings) (rows : Rows) (slice : ℕ) (candidate : Candidate) → AreInRange s → fields_fit_at (header_of s) rows slice candidate ≡ true
+every-fits s rows slice candidate range =
+    let h = header_of s in
+    slices_fit h (content_at h rows candidate) (mode_of h (content_at h rows candidate)) slice refl range.nlx.1 (omega (arith, range.nly)) (omega (arith, range.nly)) range.together
+    (counts_in_range h rows (λ _. candidate))
+
 -- Slices at a candidate
+
+zeros : (precincts : List ℕ) → sum_by no_filler precincts ≡ 0
+zeros [] = refl
+zeros (x ∷ xs) = omega (arith, sum_by-cons no_filler x xs, zeros xs)
+
+pub size_is : (h : Header) (rows : Rows) (slice : ℕ) (candidate : Candidate) → length (slice_at h rows slice candidate) ≡ size_at h rows slice candidate
+size_is h rows slice candidate =
+    omega (arith, size_of_slice h (content_at h rows candidate) (mode_of h (content_at h rows candidate)) no_filler slice, zeros (precincts_of h slice))
 
 pub slice-spelled : (h : Header) (rows : Rows) (slice : ℕ) (candidate : Candidate) → h.run_mode ≡ 0 → slice < 2 ^ 16 → (candidate.q < 2 ^ 8) × (candidate.r < 2 ^ 8) → AreSmall rows
     → fields_fit_at h rows slice candidate ≡ true → IsSlice h (content_at h rows candidate) slice (slice_at h rows slice candidate)
 slice-spelled h rows slice candidate plain index room small fits =
-    written_slice h (content_at h rows candidate) (λ _ _. 0) slice plain index
-    (writable_everywhere h (content_at h rows candidate) (λ _ _. 0) slice (λ precinct. room) (λ precinct band. omega arith) (line-writable h rows (λ _. candidate) small)) fits
+    written_slice h (content_at h rows candidate) (mode_of h (content_at h rows candidate)) no_filler slice plain index
+    (writable_everywhere h (content_at h rows candidate) (mode_of h (content_at h rows candidate)) slice (λ precinct. room) (mode-few h (content_at h rows candidate)) (line-writable h rows (λ _. candidate) small)) fits
 
 -- a slice speaks of its own candidate alone
 pub slice-local : (h : Header) (rows : Rows) (chosen : ℕ → Candidate) (slice : ℕ) (bytes : List ℕ) → 1 ≤ h.hsl → h.nly ≤ h.nlx
@@ -118,30 +145,13 @@ concat_map f xs = concat_is (map f xs) ∙ flat_map-map (λ l. l) f xs
 
 -- The header, whatever length it states
 
-accepted : (s : Settings) → AreInRange s → (lcod : ℕ) → IsAccepted (with_length (header_of s) lcod)
-accepted s range lcod = record {
-  width = (range.shape.least_width, range.shape.most_width);
-  height = (range.shape.least_height, range.shape.most_height);
-  area = range.shape.area;
-  depth = range.shape.depth;
-  hsl = range.least_height;
-  bits = (refl, refl);
-  colour = range.colour;
-  nlx = (range.some_across, range.across);
-  nly = range.down;
-  slices = range.slices;
-  run_mode = omega arith;
-  narrow = range.narrowest;
-  weights = (header_weights s range).one_each;
-}
-
-has_room : (s : Settings) → IsBuilt s → AreInRange s → (lcod : ℕ) → lcod < 2 ^ 32 → HasRoom (with_length (header_of s) lcod)
-has_room s built range lcod small = record {
+has_room : (s : Settings) → AreInRange s → (lcod : ℕ) → lcod < 2 ^ 32 → HasRoom (with_length (header_of s) lcod)
+has_room s range lcod small = record {
   lcod = small;
-  hsl = range.most_height;
+  hsl = range.hsl.1;
   gains = recursion_from_All (λ (w : Weight). w.gain < 2 ^ 8) weights (All-weaker (λ (w : Weight). w.gain ≤ 15) (λ (w : Weight). w.gain < 2 ^ 8) (λ w p. omega (arith, p)) weights known.gains);
   priorities = recursion_from_All (λ (w : Weight). w.priority < 2 ^ 8) weights
-      (All-weaker (λ (w : Weight). w.priority < bands_of (header_of s)) (λ (w : Weight). w.priority < 2 ^ 8) (λ w p. below w.priority (bands_of (header_of s)) p (few_bands s built range)) weights known.priorities);
+      (All-weaker (λ (w : Weight). w.priority < bands_of (header_of s)) (λ (w : Weight). w.priority < 2 ^ 8) (λ w p. below w.priority (bands_of (header_of s)) p (few-bands s range)) weights known.priorities);
 }
   where
     weights : List Weight
@@ -150,12 +160,12 @@ has_room s built range lcod small = record {
     known : AreWeights (bands_of (header_of s)) (header_of s).weights
     known = header_weights s range
 
-    below : (n bands : ℕ) → n < bands → bands ≤ 10 → n < 2 ^ 8
+    below : (n bands : ℕ) → n < bands → bands ≤ 30 → n < 2 ^ 8
     below n bands p q = omega (arith, p, q)
 
-built_encoding : (s : Settings) (rows : Rows) → IsBuilt s → AreInRange s → AreSmall rows → NoneOver (header_of s) rows s.share
+built_encoding : (s : Settings) (rows : Rows) → AreInRange s → AreSmall rows → NoneOver (header_of s) rows s.share
     → IsEncoding (header_of s) rows s.share (chosen_stream (header_of s) rows s.share)
-built_encoding s rows built range small within = record {
+built_encoding s rows range small within = record {
   whole = subst (λ n. IsCodestream (with_length (header_of s) n) content (stream_bytes stream)) (sym total) whole;
   count = length-map-range_with_len slice_of 0 count;
   each = λ slice inside. record {
@@ -189,7 +199,7 @@ built_encoding s rows built range small within = record {
     size = length (header_bytes h) + sum_by length (slices_at h rows chosen) + 2
 
     fits : (slice : ℕ) → slice < count → fits_at h rows s.share slice (chosen slice) ≡ true
-    fits slice inside = chosen-fits h rows s.share slice (within slice inside) (finest_fits h rows slice (built_header s built range) small)
+    fits slice inside = chosen-fits h rows s.share slice (within slice inside) (every-fits s rows slice (coarsest h) range)
 
     parts : (slice : ℕ) → slice < count → (nat_le (size_at h rows slice (chosen slice)) s.share ≡ true) × (fields_fit_at h rows slice (chosen slice) ≡ true)
     parts slice inside = and_parts (nat_le (size_at h rows slice (chosen slice)) s.share) (fields_fit_at h rows slice (chosen slice)) (fits slice inside)
@@ -197,14 +207,14 @@ built_encoding s rows built range small within = record {
     short : (slice : ℕ) → slice < count → length (slice_of slice) ≤ s.share
     short slice inside =
         let most = leb-true (size_at h rows slice (chosen slice)) s.share (parts slice inside).0 in
-        subst (λ n. n ≤ s.share) (sym (size_of_slice h (content_at h rows (chosen slice)) (λ _ _. 0) slice)) most
+        subst (λ n. n ≤ s.share) (sym (size_is h rows slice (chosen slice))) most
 
     room : (slice : ℕ) → ((chosen slice).q < 2 ^ 8) × ((chosen slice).r < 2 ^ 8)
     room slice = subst (λ (c : Candidate). (c.q < 2 ^ 8) × (c.r < 2 ^ 8)) (sym (chosen-finest h rows s.share slice)) (omega arith, omega arith)
 
     spelled : (lcod slice : ℕ) → slice < count → IsSlice (with_length (header_of s) lcod) content slice (slice_of slice)
     spelled lcod slice inside =
-        slice-local (with_length (header_of s) lcod) rows chosen slice (slice_of slice) range.least_height (omega (arith, range.down))
+        slice-local (with_length (header_of s) lcod) rows chosen slice (slice_of slice) range.hsl.0 (omega (arith, range.nly))
         (slice-spelled (with_length (header_of s) lcod) rows slice (chosen slice) refl (omega (arith, inside, few)) (room slice) small (parts slice inside).1)
 
     at : (slice : ℕ) → slice < count → get_or (slices_at h rows chosen) slice [] ≡ slice_of slice
@@ -220,41 +230,42 @@ built_encoding s rows built range small within = record {
     total : length (stream_bytes stream) ≡ size
     total =
         length-stream stream
-        ∙ ap (λ n. n + length (concat (slices_at h rows chosen)) + 2) (length-built s built range size ∙ sym (length-built s built range 0))
+        ∙ ap (λ n. n + length (concat (slices_at h rows chosen)) + 2) (header-size s range size ∙ sym (header-size s range 0))
         ∙ ap (λ n. length (header_bytes h) + n + 2) sum
 
     small_size : size < 2 ^ 32
     small_size =
-        bound (length (header_bytes h)) (bands_of h) (length (concat (slices_at h rows chosen))) (sum_by length (slices_at h rows chosen)) (length (slices_at h rows chosen))
-        (length-built s built range 0) (few_bands s built range) sum (lengths-most s.share (slices_at h rows chosen) (omega (arith, range.most_share, range.most_chunk)) all_short)
-        (omega (arith, length-map-range_with_len slice_of 0 count, few))
+        bound (length (header_bytes h)) (length (concat (slices_at h rows chosen))) (sum_by length (slices_at h rows chosen)) (length (slices_at h rows chosen) * s.share)
+        (header-size s range 0) (components-few s.shape.format) (few-bands s range) sum (lengths-most s.share (slices_at h rows chosen) all_short)
+        (ap (λ n. n * s.share) (length-map-range_with_len slice_of 0 count)) range.stream
       where
-        bound : (front bands pieces sizes n : ℕ) → front ≡ 44 + 2 * bands → bands ≤ 10 → pieces ≡ sizes → pieces ≤ 524286 * n → n ≤ 2047 → front + sizes + 2 < 2 ^ 32
-        bound front bands pieces sizes n p q r t u = omega (arith, p, q, r, t, u)
+        bound : (front pieces sizes whole : ℕ) → front ≡ 42 + 2 * components_of s.shape.format + 2 * bands_of (header_of s) → components_of s.shape.format ≤ 3 → bands_of (header_of s) ≤ 30 → pieces ≡ sizes → pieces ≤ whole
+            → whole ≡ slice_count (header_of s) * s.share → slice_count (header_of s) * s.share + 4096 ≤ 2 ^ 32 → front + sizes + 2 < 2 ^ 32
+        bound front pieces sizes whole p c q r t u v = omega (arith, p, c, q, r, t, u, v)
 
     whole : IsCodestream (with_length (header_of s) size) content (stream_bytes stream)
     whole = record {
       header = header_bytes (with_length (header_of s) size);
       slices = concat (slices_at h rows chosen);
       joined = joined-stream stream;
-      headed = written_header (with_length (header_of s) size) (accepted s range size) (has_room s built range size small_size);
+      headed = written_header (with_length (header_of s) size) (header_accepted s size range) (has_room s range size small_size);
       spelled = subst (SpellsEach (IsSlice (with_length (header_of s) size) content) (upto count)) (sym (concat_map slice_of (upto count)))
           (each-made (IsSlice (with_length (header_of s) size) content) slice_of (upto count)
           (range-all (λ slice. IsSlice (with_length (header_of s) size) content slice (slice_of slice)) 0 count (λ slice low inside. spelled size slice (omega (arith, inside)))));
       stated = inr (sym total);
     }
 
-rows_in_grammar : (s : Settings) (rows : Rows) (stream : Stream) → IsBuilt s → AreInRange s → AreSmall rows → encoding_of_rows (header_of s) rows s.share ≡ Ok stream
+rows_in_grammar : (s : Settings) (rows : Rows) (stream : Stream) → AreInRange s → AreSmall rows → encoding_of_rows (header_of s) rows s.share ≡ Ok stream
     → IsEncoding (header_of s) rows s.share stream
-rows_in_grammar s rows stream built range small e = elim (cases_over (header_of s) rows s.share) [
+rows_in_grammar s rows stream range small e = elim (cases_over (header_of s) rows s.share) [
   | inl none ↦
       subst (IsEncoding (header_of s) rows s.share) (same_stream (encoding_of_rows (header_of s) rows s.share) (chosen_stream (header_of s) rows s.share) stream none.1 e)
-      (built_encoding s rows built range small none.0)
+      (built_encoding s rows range small none.0)
   | inr some ↦ absurd (no_both (encoding_of_rows (header_of s) rows s.share) stream some.0 e some.2)
 ]
 
 pub encoded_in_grammar : EncodedInGrammar
 unfolding encoding_of
-encoded_in_grammar s picture stream built range e =
-    rows_in_grammar s (rows_of (header_of s) picture) stream built range
+encoded_in_grammar s picture stream range e =
+    rows_in_grammar s (rows_of_picture (header_of s) picture) stream range
     (λ band line column. let most = small_rows (header_of s) picture band line column in omega (arith, most)) e

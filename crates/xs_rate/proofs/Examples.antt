@@ -7,12 +7,12 @@ use Rattle.xs_layout.specs.Weighting.{default_weights_of}
 use Rattle.xs_lists.specs.Bits.{bits_of}
 use Rattle.xs_params.specs.declared.header.Header.{Header}
 use Rattle.xs_params.specs.Picture.{Picture}
-use Rattle.xs_grammar.specs.Geometry.{packet_bands, packets_of, precinct_count}
+use Rattle.xs_params.specs.Geometry.{packet_bands, packets_of, precinct_count}
 use Rattle.xs_grammar.specs.Precinct.{Content}
 use Rattle.xs_grammar.specs.Sizes.{slice_size}
 use Rattle.xs_layout.specs.declared.Candidate.{Candidate}
 use Rattle.xs_layout.specs.Candidates.{finest}
-use Rattle.xs_rate.specs.Coefficients.{rows_of}
+use Rattle.xs_rate.specs.Coefficients.{rows_of_picture}
 use Rattle.xs_rate.specs.Encoding.{content_at, encoding_of_rows}
 use Rattle.xs_rate.specs.Modes.{least_mode}
 
@@ -63,11 +63,11 @@ black_slice =
     0xf0 ∷ 0x00 ∷ 0x00 ∷ 0x00 ∷ 0x00 ∷ 0x00 ∷ []
 
 -- it is encoded where the share has room for the slice, and else refused
-black_encoded : encoding_of_rows header (rows_of header black) 182 ≡ Ok (record { header = black_header; slices = black_slice ∷ [] })
+black_encoded : encoding_of_rows header (rows_of_picture header black) 182 ≡ Ok (record { header = black_header; slices = black_slice ∷ [] })
 unfolding bits_of
 black_encoded = refl
 
-black_refused : encoding_of_rows header (rows_of header black) 181 ≡ Err (record { slice = 0; size = 182; share = 181 })
+black_refused : encoding_of_rows header (rows_of_picture header black) 181 ≡ Err (record { slice = 0; size = 182; share = 181 })
 unfolding bits_of
 black_refused = refl
 
@@ -75,7 +75,7 @@ black_refused = refl
 -- from the line above
 
 abbrev content_with : Candidate → Content
-content_with candidate = content_at header (rows_of header black) candidate
+content_with candidate = content_at header (rows_of_picture header black) candidate
 
 abbrev size_with : Candidate → ℕ
 size_with candidate = slice_size header (content_with candidate) (least_mode header (content_with candidate)) 0

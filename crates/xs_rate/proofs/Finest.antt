@@ -1,5 +1,5 @@
 -- Lines at the finest candidate.
-use Rattle.std.proofs.Common.{◌≡◌, ℕ, zero, suc, ◌+◌, ◌-◌, ◌*◌, ◌/◌, ◌%◌, ◌^◌, ◌<◌, ◌≤◌, max, ℤ, pos, negsuc, List, [], ◌∷◌, ◌++◌, map, refl, sym, ap, subst, ◌∙◌, arith}
+use Rattle.std.proofs.Common.{◌≡◌, ℕ, zero, suc, ◌+◌, ◌-◌, ◌*◌, ◌/◌, ◌%◌, ◌^◌, ◌<◌, ◌≤◌, max, ℤ, pos, negsuc, List, [], ◌∷◌, ◌++◌, map, refl, sym, ap, ◌∙◌, arith}
 use Rattle.std.specs.Prelude.{Bool, true, false, nat_lt, nat_le, not, ◌&&◌, if◌then◌else◌, unsigned_abs}
 use Rattle.std.specs.Int.{is_negative}
 use Rattle.std.specs.List.{flat_map}
@@ -19,8 +19,10 @@ use Rattle.xs_spelling.specs.Data.{columns_of}
 use Rattle.xs_spelling.specs.Written.{ones_of, count_bits, group_bits, written_flag}
 use Rattle.xs_grammar.specs.Precinct.{weight_of}
 use Rattle.xs_rate.specs.Content.{greatest_of, planes_of}
-use Rattle.xs_rate.specs.Finest.{numbers_of, plane_of, group_data, finest_line, band_groups, IsSmallRow, FinestLine}
-use Rattle.xs_rate.proofs.Digits.{digits-room, digits-most}
+use Rattle.xs_rate.specs.Finest.{numbers_of, plane_of, group_data, finest_line, FinestLine}
+use Rattle.xs_rate.specs.Laws.{band_groups}
+use Rattle.xs_rate.proofs.Digits.{digits-most}
+use Rattle.xs_rate.proofs.Planes.{planes-room}
 
 -- two functions that agree give the same joined lists
 pub flat_map-same : {A B : Type 0} (f g : A → List B) → ((x : A) → f x ≡ g x) → (xs : List A) → flat_map f xs ≡ flat_map g xs
@@ -41,33 +43,6 @@ numbers-listed row group =
     let two : 4 * group + 1 + 1 ≡ 4 * group + 2 = omega arith in
     let three : 4 * group + 1 + 1 + 1 ≡ 4 * group + 3 = omega arith in
     ap (λ k. row (4 * group) ∷ row (4 * group + 1) ∷ row k ∷ row (4 * group + 1 + 1 + 1) ∷ []) two ∙ ap (λ k. row (4 * group) ∷ row (4 * group + 1) ∷ row (4 * group + 2) ∷ row k ∷ []) three
-
--- Magnitudes
-
--- each magnitude of a code group is at most the greatest
-pub greatest-bounds : (row : ℕ → ℤ) (column : ℕ) → unsigned_abs (row column) ≤ greatest_of row (column / 4)
-greatest-bounds row column =
-    let at : column ≡ 4 * (column / 4) + column % 4 = omega arith in
-    let rest : column % 4 < 4 = omega arith in
-    subst (λ k. unsigned_abs (row k) ≤ greatest_of row (column / 4)) (sym at) (place (column / 4) (column % 4) rest)
-  where
-    place : (group i : ℕ) → i < 4 → unsigned_abs (row (4 * group + i)) ≤ greatest_of row group
-    place group zero inside = let here : 4 * group + 0 ≡ 4 * group = omega arith in subst (λ k. unsigned_abs (row k) ≤ greatest_of row group) (sym here) (omega arith)
-    place group (suc zero) inside = omega arith
-    place group (suc (suc zero)) inside =
-        let here : 4 * group + 2 ≡ 4 * group + 1 + 1 = omega arith in subst (λ k. unsigned_abs (row k) ≤ greatest_of row group) (sym here) (omega arith)
-    place group (suc (suc (suc zero))) inside =
-        let here : 4 * group + 3 ≡ 4 * group + 1 + 1 + 1 = omega arith in subst (λ k. unsigned_abs (row k) ≤ greatest_of row group) (sym here) (omega arith)
-    place group (suc (suc (suc (suc i)))) inside = absurd (omega (arith, inside))
-
--- and the greatest is small where all are
-pub greatest-small : (row : ℕ → ℤ) (bound : ℕ) → 0 < bound → ((column : ℕ) → unsigned_abs (row column) < bound) → (group : ℕ) → greatest_of row group < bound
-greatest-small row bound some small group =
-    omega (arith, some, small (4 * group), small (4 * group + 1), small (4 * group + 1 + 1), small (4 * group + 1 + 1 + 1))
-
-pub planes-room : (row : ℕ → ℤ) → IsSmallRow row → (column : ℕ) → unsigned_abs (row column) < 2 ^ planes_of row (column / 4)
-planes-room row small column =
-    omega (arith, greatest-bounds row column, digits-room (greatest_of row (column / 4)) (greatest-small row (2 ^ 15) (omega arith) small (column / 4)))
 
 -- Nothing is cut off
 

@@ -8,8 +8,8 @@ use Rattle.xs_params.specs.declared.header.Header.{Header}
 use Rattle.xs_params.specs.Headers.{header_of}
 use Rattle.xs_params.specs.Stream.{Stream}
 use Rattle.xs_faults.specs.declared.Budget.{Budget}
-use Rattle.xs_grammar.specs.Geometry.{slice_count}
-use Rattle.xs_rate.specs.Coefficients.{Rows, rows_of}
+use Rattle.xs_params.specs.Geometry.{slice_count}
+use Rattle.xs_rate.specs.Coefficients.{Rows, rows_of_picture}
 use Rattle.xs_rate.specs.Encoding.{coarsest, size_at, is_over, encoding_of_rows, encoding_of}
 use Rattle.xs_rate.specs.Encoded.{chosen_stream, NoneOver, IsFirstOver, FirstOver}
 
@@ -151,7 +151,7 @@ rows_given h rows share p = elim (cases_over h rows share) [
 pub first_over_law : FirstOver
 unfolding encoding_of
 first_over_law = record {
-  refused = λ s picture budget. rows_refused (header_of s) (rows_of (header_of s) picture) s.share budget;
-  encoded = λ s picture. rows_encoded (header_of s) (rows_of (header_of s) picture) s.share;
-  given = λ s picture. rows_given (header_of s) (rows_of (header_of s) picture) s.share;
+  refused = λ s picture budget. rows_refused (header_of s) (rows_of_picture (header_of s) picture) s.share budget;
+  encoded = λ s picture. rows_encoded (header_of s) (rows_of_picture (header_of s) picture) s.share;
+  given = λ s picture. rows_given (header_of s) (rows_of_picture (header_of s) picture) s.share;
 }

@@ -1,6 +1,5 @@
--- The header of what is encoded now.
-use Rattle.std.proofs.Common.{◌≡◌, ℕ, ◌+◌, ◌*◌, ◌≤◌, List, [], ◌∷◌, ◌++◌, length, refl, ap, ◌∙◌, arith, length-append}
-use Rattle.std.specs.Prelude.{false}
+-- Sizes of written headers.
+use Rattle.std.proofs.Common.{◌≡◌, ℕ, zero, suc, ◌+◌, ◌*◌, ◌≤◌, List, [], ◌∷◌, ◌++◌, length, refl, ap, ◌∙◌, arith, length-append}
 use Rattle.std.specs.List.{flat_map}
 use Rattle.xs_lists.specs.Bits.{bytes_for}
 use Rattle.xs_lists.specs.Spelling.{upto}
@@ -13,33 +12,36 @@ use Rattle.xs_params.specs.declared.settings.Settings.{Settings}
 use Rattle.xs_params.specs.Check.{AreInRange}
 use Rattle.xs_params.specs.Headers.{header_of}
 use Rattle.xs_params.proofs.HeaderWeights.{header_weights}
-use Rattle.xs_grammar.specs.Geometry.{bands_of}
+use Rattle.xs_params.specs.Geometry.{bands_of}
 use Rattle.xs_grammar.specs.Header.{Segment, segment_bytes, picture_fields, component_fields, weight_fields}
 use Rattle.xs_grammar.specs.Coded.{field_bytes, header_bytes}
 use Rattle.xs_grammar.proofs.Coded.{widths}
 use Rattle.xs_grammar.proofs.CodedStream.{length-field_bytes}
-use Rattle.xs_rate.specs.Encoding.{IsBuilt, with_length}
-use Rattle.xs_rate.specs.Laws.{IsNarrow}
-use Rattle.xs_rate.proofs.Narrow.{grey_is_narrow}
+use Rattle.xs_rate.specs.Encoding.{with_length}
 
--- what matters of a header for the sizes of its slices
-pub record IsBuiltHeader (h : Header) : Type 0 where
-  pub long_heads : h.long_heads ≡ false
-  pub signs : h.signs_apart ≡ false
-  pub down : h.nly ≤ 2
-  pub narrow : IsNarrow h
+pub components-few : (format : Format) → components_of format ≤ 3
+components-few Mono = omega arith
+components-few C422 = omega arith
+components-few C444 = omega arith
 
-pub built_header : (s : Settings) → IsBuilt s → AreInRange s → IsBuiltHeader (header_of s)
-built_header s built range = record {
-  long_heads = refl;
-  signs = built.signs;
-  down = omega (arith, range.down);
-  narrow = grey_is_narrow (header_of s) built.format range.shape.most_width range.across (omega (arith, range.down));
-}
+pub some-bands : (s : Settings) → 1 ≤ bands_of (header_of s)
+some-bands s = cases s.shape.format
+  where
+    cases : (format : Format) → 1 ≤ (2 * s.nly + s.nlx + 1) * components_of format
+    cases Mono = omega arith
+    cases C422 = omega arith
+    cases C444 = omega arith
 
 -- there are few bands
-pub few_bands : (s : Settings) → IsBuilt s → AreInRange s → bands_of (header_of s) ≤ 10
-few_bands s built range = omega (arith, ap (λ format. (2 * s.nly + s.nlx + 1) * components_of format) built.format, range.across, range.down)
+pub few-bands : (s : Settings) → AreInRange s → bands_of (header_of s) ≤ 30
+few-bands s range = bound (components_of s.shape.format) (components-few s.shape.format)
+  where
+    bound : (n : ℕ) → n ≤ 3 → (2 * s.nly + s.nlx + 1) * n ≤ 30
+    bound zero p = omega arith
+    bound (suc zero) p = omega (arith, range.nlx.1, range.nly)
+    bound (suc (suc zero)) p = omega (arith, range.nlx.1, range.nly)
+    bound (suc (suc (suc zero))) p = omega (arith, range.nlx.1, range.nly)
+    bound (suc (suc (suc (suc n)))) p = absurd (omega (arith, p))
 
 -- Sizes of headers
 
@@ -88,10 +90,5 @@ length-header h =
     )
 
 -- whatever length it states
-pub length-built : (s : Settings) → IsBuilt s → AreInRange s → (lcod : ℕ) → length (header_bytes (with_length (header_of s) lcod)) ≡ 44 + 2 * bands_of (header_of s)
-length-built s built range lcod =
-    total (length (header_bytes (with_length (header_of s) lcod))) (components_of s.shape.format) (length (header_of s).weights) (bands_of (header_of s))
-    (length-header (with_length (header_of s) lcod)) (ap components_of built.format) (header_weights s range).one_each
-  where
-    total : (size components weights bands : ℕ) → size ≡ 42 + 2 * components + 2 * weights → components ≡ 1 → weights ≡ bands → size ≡ 44 + 2 * bands
-    total size components weights bands p q r = omega (arith, p, q, r)
+pub header-size : (s : Settings) → AreInRange s → (lcod : ℕ) → length (header_bytes (with_length (header_of s) lcod)) ≡ 42 + 2 * components_of s.shape.format + 2 * bands_of (header_of s)
+header-size s range lcod = omega (arith, length-header (with_length (header_of s) lcod), (header_weights s range).one_each)

@@ -1,12 +1,22 @@
 pub mod Digits
+pub mod Planes
 pub mod Finest
 pub mod Rows
 pub mod Narrow
+pub mod Widths
 pub mod Headers
 pub mod Packets
+pub mod Fields
+pub mod AllCut
 pub mod Fits
 pub mod FirstOver
 pub mod Encoded
 pub mod Fewest
-pub mod GreySlices
+pub mod Filled
+pub mod Alike
+pub mod Steps
+pub mod Unsigned
+pub mod Coarsest
+pub mod Bodies
+pub mod FinestSlices
 mod Examples

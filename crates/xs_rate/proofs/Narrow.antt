@@ -1,10 +1,9 @@
--- The packets of a grey picture are narrow.
+-- The packets of one component have a quarter of its columns as code groups, and a few more.
 use Rattle.std.proofs.Common.{◌≡◌, ℕ, zero, suc, ◌+◌, ◌-◌, ◌*◌, ◌/◌, ◌%◌, ◌^◌, ◌<◌, ◌≤◌, List, [], ◌∷◌, ◌++◌, map, length, get_or, refl, sym, ap, subst, ◌∙◌, arith}
 use Rattle.std.specs.Prelude.{Bool, true, false, cond, nat_eq, if◌then◌else◌}
 use Rattle.std.specs.List.{flat_map, filter, sum_by, range_with_len, AllByRecursion}
 use Rattle.std.proofs.Math.Nat.{div-one}
 use Rattle.std.proofs.lemmas.List.{get_or_append_left, get_or-map, length-map}
-use Rattle.std.proofs.lemmas.List.Elements.{All-contains, All-from_recursion}
 use Rattle.std.proofs.lemmas.List.FromFn.{get_or-map-range_with_len, length-map-range_with_len}
 use Rattle.std.proofs.lemmas.List.Sums.{sum_by-cons, sum_by_push}
 use Rattle.xs_lists.specs.Spelling.{upto, downto}
@@ -14,16 +13,14 @@ use Rattle.xs_layout.specs.declared.Format.{Format}
 use Rattle.xs_layout.specs.declared.Format.TheVariants.{Mono}
 use Rattle.xs_layout.specs.Geometry.{ceil_div, components_of, component_width_of, low_size, high_size, side_size, BandType, ll, hl, lh, hh, band_types, type_of_band, groups_of, PacketPlace, packet_places_of}
 use Rattle.xs_layout.proofs.Places.{sides_make_up}
-use Rattle.xs_grammar.specs.Geometry.{packets_of, has_line}
-use Rattle.xs_rate.specs.Laws.{GreyIsNarrow}
 
 -- Lists
 
-all-flat : {A B : Type 0} (P : B → Type 0) (f : A → List B) → ((x : A) → AllByRecursion P (f x)) → (xs : List A) → AllByRecursion P (flat_map f xs)
+pub all-flat : {A B : Type 0} (P : B → Type 0) (f : A → List B) → ((x : A) → AllByRecursion P (f x)) → (xs : List A) → AllByRecursion P (flat_map f xs)
 all-flat P f h [] = tt
 all-flat P f h (x ∷ xs) = all-append P (f x) (flat_map f xs) (h x) (all-flat P f h xs)
 
-all-kept : {A : Type 0} (P : A → Type 0) (test : A → Bool) (xs : List A) → AllByRecursion P xs → AllByRecursion P (filter test xs)
+pub all-kept : {A : Type 0} (P : A → Type 0) (test : A → Bool) (xs : List A) → AllByRecursion P xs → AllByRecursion P (filter test xs)
 all-kept P test [] h = tt
 all-kept {A} P test (x ∷ xs) h = cases (test x) (all-kept P test xs h.1)
   where
@@ -31,7 +28,7 @@ all-kept {A} P test (x ∷ xs) h = cases (test x) (all-kept P test xs h.1)
     cases true rest = (h.0, rest)
     cases false rest = rest
 
-sum_by-same : {A : Type 0} (f g : A → ℕ) → ((x : A) → f x ≡ g x) → (xs : List A) → sum_by f xs ≡ sum_by g xs
+pub sum_by-same : {A : Type 0} (f g : A → ℕ) → ((x : A) → f x ≡ g x) → (xs : List A) → sum_by f xs ≡ sum_by g xs
 sum_by-same f g h [] = refl
 sum_by-same f g h (x ∷ xs) = omega (arith, sum_by-cons f x xs, sum_by-cons g x xs, h x, sum_by-same f g h xs)
 
@@ -43,10 +40,10 @@ wide_types nlx nly = map (λ level. hl level nly) (downto (nlx + 1) (nly + 1))
 abbrev deep_types : ℕ → List BandType
 deep_types nly = flat_map (λ level. hl level level ∷ lh level level ∷ hh level level ∷ []) (downto (nly + 1) 1)
 
-length-downto : (top bottom : ℕ) → length (downto top bottom) ≡ top - bottom
+pub length-downto : (top bottom : ℕ) → length (downto top bottom) ≡ top - bottom
 length-downto top bottom = length-map-range_with_len (λ i. top - (i + 1)) 0 (top - bottom)
 
-downto_at : (top bottom j : ℕ) → j < top - bottom → get_or (downto top bottom) j 0 ≡ top - (j + 1)
+pub downto_at : (top bottom j : ℕ) → j < top - bottom → get_or (downto top bottom) j 0 ≡ top - (j + 1)
 downto_at top bottom j inside = get_or-map-range_with_len (λ i. top - (i + 1)) 0 (top - bottom) j j 0 inside (omega arith)
 
 -- the types that are not split down, after LL
@@ -65,7 +62,7 @@ low_first : (n : ℕ) → low_size n 0 ≡ n
 low_first n = omega arith
 
 -- no side is longer than the picture
-low-most : (n level : ℕ) → low_size n level ≤ n
+pub low-most : (n level : ℕ) → low_size n level ≤ n
 low-most n zero = omega (arith, low_first n)
 low-most n (suc level) =
     let next : level + 1 ≡ suc level = omega arith in
@@ -76,7 +73,7 @@ low-most n (suc level) =
     halved : (a b : ℕ) → b ≡ (a + 1) / 2 → a ≤ n → b ≤ n
     halved a b e p = omega (arith, e, p)
 
-side-most : (n level : ℕ) (high : Bool) → side_size n level high ≤ n
+pub side-most : (n level : ℕ) (high : Bool) → side_size n level high ≤ n
 side-most n level true = half (low_size n (level - 1)) (low-most n (level - 1))
   where
     half : (a : ℕ) → a ≤ n → a / 2 ≤ n
@@ -84,14 +81,14 @@ side-most n level true = half (low_size n (level - 1)) (low-most n (level - 1))
 side-most n level false = low-most n level
 
 -- the code groups of a band, by its type
-abbrev type_groups : ℕ → BandType → ℕ
+abbrev pub type_groups : ℕ → BandType → ℕ
 type_groups width type = groups_of (side_size width type.across type.high_across)
 
-groups-most : (n : ℕ) → 4 * groups_of n ≤ n + 3
+pub groups-most : (n : ℕ) → 4 * groups_of n ≤ n + 3
 groups-most n = omega arith
 
 -- the types that are not split down make up the low side of the levels that are split both ways
-wide-sum : (width nlx nly k : ℕ) → nly ≤ nlx → k ≤ nlx - nly
+pub wide-sum : (width nlx nly k : ℕ) → nly ≤ nlx → k ≤ nlx - nly
     → 4 * sum_by (λ type. type_groups width (get_or (band_types nlx nly) type (ll 0 0))) (range_with_len 0 (k + 1)) ≤ low_size width (nlx - k) + 3 * (k + 1)
 wide-sum width nlx nly zero below inside =
     let all : nlx - 0 ≡ nlx = omega arith in
@@ -118,10 +115,10 @@ wide-sum width nlx nly (suc k) below inside =
 -- Packets of one component
 
 -- the code groups of a band of a format, and of the bands of a packet
-abbrev groups_with : Format → ℕ → ℕ → ℕ → ℕ → ℕ
+abbrev pub groups_with : Format → ℕ → ℕ → ℕ → ℕ → ℕ
 groups_with format width nlx nly band = type_groups (component_width_of format width (band % components_of format)) (type_of_band nlx nly (components_of format) band)
 
-abbrev packet_groups : Format → ℕ → ℕ → ℕ → PacketPlace → ℕ
+abbrev pub packet_groups : Format → ℕ → ℕ → ℕ → PacketPlace → ℕ
 packet_groups format width nlx nly place =
     sum_by (groups_with format width nlx nly) (range_with_len (place.first_type * components_of format) (place.types * components_of format))
 
@@ -138,8 +135,8 @@ mono_groups width nlx nly band =
     ∙ ap (λ type. type_groups width (get_or (band_types nlx nly) type (ll 0 0))) (div-one band)
 
 -- the packet of the types that are not split down
-first-narrow : (width nlx nly precinct : ℕ) → width ≤ 8192 → nlx ≤ 5 → nly ≤ nlx → packet_groups Mono width nlx nly (record { first_type = 0; types = nlx - nly + 1; line = precinct }) ≤ 2054
-first-narrow width nlx nly precinct most few below =
+first-narrow : (width nlx nly precinct columns : ℕ) → width ≤ columns → nlx ≤ 5 → nly ≤ nlx → 4 * packet_groups Mono width nlx nly (record { first_type = 0; types = nlx - nly + 1; line = precinct }) ≤ columns + 54
+first-narrow width nlx nly precinct columns most few below =
     let types : (nlx - nly + 1) * 1 ≡ nlx - nly + 1 = omega arith in
     let known = wide-sum width nlx nly (nlx - nly) below (omega arith) in
     bound (packet_groups Mono width nlx nly (record { first_type = 0; types = nlx - nly + 1; line = precinct }))
@@ -148,24 +145,24 @@ first-narrow width nlx nly precinct most few below =
     ∙ sum_by-same (groups_with Mono width nlx nly) (λ type. type_groups width (get_or (band_types nlx nly) type (ll 0 0))) (mono_groups width nlx nly) (range_with_len 0 (nlx - nly + 1)))
     known (low-most width (nlx - (nlx - nly)))
   where
-    bound : (whole sum low : ℕ) → whole ≡ sum → 4 * sum ≤ low + 3 * (nlx - nly + 1) → low ≤ width → whole ≤ 2054
+    bound : (whole sum low : ℕ) → whole ≡ sum → 4 * sum ≤ low + 3 * (nlx - nly + 1) → low ≤ width → 4 * whole ≤ columns + 54
     bound whole sum low p q r = omega (arith, p, q, r, most, few)
 
 -- a packet of one type
-one-narrow : (width nlx nly first line : ℕ) → width ≤ 8192 → packet_groups Mono width nlx nly (record { first_type = first; types = 1; line = line }) ≤ 2054
-one-narrow width nlx nly first line most =
+one-narrow : (width nlx nly first line columns : ℕ) → width ≤ columns → 4 * packet_groups Mono width nlx nly (record { first_type = first; types = 1; line = line }) ≤ columns + 54
+one-narrow width nlx nly first line columns most =
     let type = get_or (band_types nlx nly) (first * 1) (ll 0 0) in
     bound (groups_with Mono width nlx nly (first * 1)) (side_size width type.across type.high_across) (mono_groups width nlx nly (first * 1)) (side-most width type.across type.high_across)
   where
-    bound : (groups side : ℕ) → groups ≡ groups_of side → side ≤ width → 0 + groups ≤ 2054
+    bound : (groups side : ℕ) → groups ≡ groups_of side → side ≤ width → 4 * (0 + groups) ≤ columns + 54
     bound groups side p q = omega (arith, p, q, most, groups-most side)
 
-all-narrow : (width nlx nly precinct : ℕ) → width ≤ 8192 → nlx ≤ 5 → nly ≤ nlx → AllByRecursion (λ place. packet_groups Mono width nlx nly place ≤ 2054) (packet_places_of nlx nly precinct)
-all-narrow width nlx nly precinct most few below =
-    (first-narrow width nlx nly precinct most few below, all-flat Narrow (λ level. flat_map (three level) (range_with_len (precinct * 2 ^ (nly - level)) (2 ^ (nly - level)))) level (downto (nly + 1) 1))
+pub all-narrow : (width nlx nly precinct columns : ℕ) → width ≤ columns → nlx ≤ 5 → nly ≤ nlx → AllByRecursion (λ place. 4 * packet_groups Mono width nlx nly place ≤ columns + 54) (packet_places_of nlx nly precinct)
+all-narrow width nlx nly precinct columns most few below =
+    (first-narrow width nlx nly precinct columns most few below, all-flat Narrow (λ level. flat_map (three level) (range_with_len (precinct * 2 ^ (nly - level)) (2 ^ (nly - level)))) level (downto (nly + 1) 1))
   where
     Narrow : PacketPlace → Type 0
-    Narrow place = packet_groups Mono width nlx nly place ≤ 2054
+    Narrow place = 4 * packet_groups Mono width nlx nly place ≤ columns + 54
 
     place_at : ℕ → ℕ → ℕ → PacketPlace
     place_at level line side = record { first_type = nlx - nly + 1 + 3 * (nly - level) + side; types = 1; line = line }
@@ -173,19 +170,8 @@ all-narrow width nlx nly precinct most few below =
     three : ℕ → ℕ → List PacketPlace
     three level line = map (place_at level line) (upto 3)
 
-    narrow : (level line side : ℕ) → packet_groups Mono width nlx nly (place_at level line side) ≤ 2054
-    narrow level line side = one-narrow width nlx nly (nlx - nly + 1 + 3 * (nly - level) + side) line most
+    narrow : (level line side : ℕ) → 4 * packet_groups Mono width nlx nly (place_at level line side) ≤ columns + 54
+    narrow level line side = one-narrow width nlx nly (nlx - nly + 1 + 3 * (nly - level) + side) line columns most
 
     level : (level : ℕ) → AllByRecursion Narrow (flat_map (three level) (range_with_len (precinct * 2 ^ (nly - level)) (2 ^ (nly - level))))
     level k = all-flat Narrow (three k) (λ line. (narrow k line 0, (narrow k line 1, (narrow k line 2, tt)))) (range_with_len (precinct * 2 ^ (nly - k)) (2 ^ (nly - k)))
-
-pub grey_is_narrow : GreyIsNarrow
-grey_is_narrow h mono most few below precinct place there =
-    All-contains Narrow (packets_of h precinct) place (All-from_recursion Narrow (packets_of h precinct) (all-kept Narrow (has_line h) (packet_places_of h.nlx h.nly precinct) places)) there
-  where
-    Narrow : PacketPlace → Type 0
-    Narrow place = packet_groups h.shape.format h.shape.width h.nlx h.nly place ≤ 2054
-
-    places : AllByRecursion Narrow (packet_places_of h.nlx h.nly precinct)
-    places = subst (λ format. AllByRecursion (λ place. packet_groups format h.shape.width h.nlx h.nly place ≤ 2054) (packet_places_of h.nlx h.nly precinct)) (sym mono)
-        (all-narrow h.shape.width h.nlx h.nly precinct most few below)

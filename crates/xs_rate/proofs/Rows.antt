@@ -7,7 +7,7 @@ use Rattle.xs_signal.specs.Fold.{fold}
 use Rattle.xs_signal.specs.Picture.{analysed, each_entry}
 use Rattle.xs_signal.specs.Wavelet.{Bands, band_plane}
 use Rattle.xs_signal.proofs.Magnitudes.{fold_fits}
-use Rattle.xs_grammar.specs.Geometry.{band_width_of, band_component, band_type_of}
+use Rattle.xs_params.specs.Geometry.{band_width_of, band_component, band_type_of}
 use Rattle.xs_rate.specs.Coefficients.{signal_of}
 use Rattle.xs_rate.specs.Laws.{SmallRows}
 

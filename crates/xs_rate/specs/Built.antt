@@ -1,4 +1,4 @@
--- What is built of the choice of candidate and mode: one candidate, which is the finest and the coarsest, and mode 0. The whole list is
+-- The choice of candidate and mode: one candidate, which is the finest and the coarsest, and mode 0. The whole list is
 -- `candidates_of (bands_of h) h.weights`, and the mode with the fewest bits `least_mode`.
 use Rattle.std.specs.Prelude.{ℕ, List, [], ◌∷◌}
 use Rattle.xs_layout.specs.declared.Candidate.{Candidate}

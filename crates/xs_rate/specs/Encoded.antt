@@ -7,13 +7,13 @@ use Rattle.xs_params.specs.Headers.{header_of}
 use Rattle.xs_params.specs.Picture.{Picture}
 use Rattle.xs_params.specs.Stream.{Stream, stream_bytes}
 use Rattle.xs_faults.specs.declared.Budget.{Budget}
-use Rattle.xs_grammar.specs.Geometry.{slice_count}
+use Rattle.xs_params.specs.Geometry.{slice_count}
 use Rattle.xs_grammar.specs.Precinct.{Content}
 use Rattle.xs_grammar.specs.Slice.{IsSlice}
 use Rattle.xs_grammar.specs.Codestream.{IsCodestream}
-use Rattle.xs_rate.specs.Coefficients.{Rows, rows_of}
+use Rattle.xs_rate.specs.Coefficients.{Rows, rows_of_picture}
 use Rattle.xs_rate.specs.Content.{content_of}
-use Rattle.xs_rate.specs.Encoding.{with_length, slices_at, stream_of, chosen_candidate, coarsest, size_at, encoding_of, IsBuilt}
+use Rattle.xs_rate.specs.Encoding.{with_length, slices_at, stream_of, chosen_candidate, coarsest, size_at, encoding_of}
 
 -- the codestream of the slices at their chosen candidates
 abbrev pub chosen_stream : Header → Rows → ℕ → Stream
@@ -36,10 +36,10 @@ pub record IsFirstOver (h : Header) (rows : Rows) (share : ℕ) (budget : Budget
 -- a picture is refused exactly where a slice is over its share, by the first such slice, and else it has an encoding: the codestream of
 -- the slices at their chosen candidates
 pub record FirstOver : Type 0 where
-  pub refused : (s : Settings) (picture : Picture) (budget : Budget) → (encoding_of s picture ≡ Err budget) ↔ IsFirstOver (header_of s) (rows_of (header_of s) picture) s.share budget
-  pub encoded : (s : Settings) (picture : Picture) → ((stream : Stream) × (encoding_of s picture ≡ Ok stream)) ↔ NoneOver (header_of s) (rows_of (header_of s) picture) s.share
-  pub given : (s : Settings) (picture : Picture) → NoneOver (header_of s) (rows_of (header_of s) picture) s.share
-      → encoding_of s picture ≡ Ok (chosen_stream (header_of s) (rows_of (header_of s) picture) s.share)
+  pub refused : (s : Settings) (picture : Picture) (budget : Budget) → (encoding_of s picture ≡ Err budget) ↔ IsFirstOver (header_of s) (rows_of_picture (header_of s) picture) s.share budget
+  pub encoded : (s : Settings) (picture : Picture) → ((stream : Stream) × (encoding_of s picture ≡ Ok stream)) ↔ NoneOver (header_of s) (rows_of_picture (header_of s) picture) s.share
+  pub given : (s : Settings) (picture : Picture) → NoneOver (header_of s) (rows_of_picture (header_of s) picture) s.share
+      → encoding_of s picture ≡ Ok (chosen_stream (header_of s) (rows_of_picture (header_of s) picture) s.share)
 
 -- Encodings
 
@@ -64,5 +64,5 @@ pub record IsEncoding (h : Header) (rows : Rows) (share : ℕ) (stream : Stream)
 
 -- so what is given for a picture is in the grammar
 abbrev pub EncodedInGrammar : Type 0
-EncodedInGrammar = (s : Settings) (picture : Picture) (stream : Stream) → IsBuilt s → AreInRange s → encoding_of s picture ≡ Ok stream
-    → IsEncoding (header_of s) (rows_of (header_of s) picture) s.share stream
+EncodedInGrammar = (s : Settings) (picture : Picture) (stream : Stream) → AreInRange s → encoding_of s picture ≡ Ok stream
+    → IsEncoding (header_of s) (rows_of_picture (header_of s) picture) s.share stream

@@ -13,13 +13,13 @@ use Rattle.xs_params.specs.Headers.{header_of}
 use Rattle.xs_params.specs.Picture.{Picture}
 use Rattle.xs_params.specs.Stream.{Stream}
 use Rattle.xs_faults.specs.declared.Budget.{Budget}
-use Rattle.xs_grammar.specs.Geometry.{slice_count}
+use Rattle.xs_params.specs.Geometry.{slice_count}
 use Rattle.xs_grammar.specs.Precinct.{Content}
-use Rattle.xs_grammar.specs.Coded.{header_bytes, slice_bytes, slice_fits}
-use Rattle.xs_rate.specs.Coefficients.{Rows, rows_of}
+use Rattle.xs_grammar.specs.Coded.{header_bytes, no_filler, slice_bytes, slice_fits}
+use Rattle.xs_rate.specs.Coefficients.{Rows, rows_of_picture}
 use Rattle.xs_rate.specs.Content.{content_of}
 use Rattle.xs_grammar.specs.Sizes.{slice_size}
-use Rattle.xs_rate.specs.Built.{candidates, mode_of}
+pub use Rattle.xs_rate.specs.Built.{candidates, mode_of}
 
 -- a header that states this length
 abbrev pub with_length : Header → ℕ → Header
@@ -47,7 +47,7 @@ content_at h rows candidate = content_of h rows (λ _. candidate)
 
 -- a slice at a candidate, which speaks of its own candidate alone
 abbrev pub slice_at : Header → Rows → ℕ → Candidate → List ℕ
-slice_at h rows slice candidate = slice_bytes h (content_at h rows candidate) (mode_of h (content_at h rows candidate)) slice
+slice_at h rows slice candidate = slice_bytes h (content_at h rows candidate) (mode_of h (content_at h rows candidate)) no_filler slice
 
 abbrev pub slices_at : Header → Rows → (ℕ → Candidate) → List (List ℕ)
 slices_at h rows candidate = map (λ slice. slice_at h rows slice (candidate slice)) (upto (slice_count h))
@@ -63,7 +63,7 @@ size_at h rows slice candidate = slice_size h (content_at h rows candidate) (mod
 
 -- each length in the slice at a candidate has room in its field
 abbrev pub fields_fit_at : Header → Rows → ℕ → Candidate → Bool
-fields_fit_at h rows slice candidate = slice_fits h (content_at h rows candidate) (mode_of h (content_at h rows candidate)) slice
+fields_fit_at h rows slice candidate = slice_fits h (content_at h rows candidate) (mode_of h (content_at h rows candidate)) no_filler slice
 
 -- the slice at a candidate is within its share, and its fields fit
 abbrev pub fits_at : Header → Rows → ℕ → ℕ → Candidate → Bool
@@ -93,9 +93,9 @@ encoding_of_rows h rows share =
 
 -- the encoding of a picture
 unfoldable pub encoding_of : Settings → Picture → Result Stream Budget
-encoding_of settings picture = encoding_of_rows (header_of settings) (rows_of (header_of settings) picture) settings.share
+encoding_of settings picture = encoding_of_rows (header_of settings) (rows_of_picture (header_of settings) picture) settings.share
 
--- what is encoded now: grey pictures of 8 bits, with the dead-zone quantiser, the default weights, and signs among the data
+-- what is encoded: grey pictures of 8 bits, with the dead-zone quantiser, the default weights, signs among the data, and no filler
 pub record IsBuilt (s : Settings) : Type 0 where
   pub format : s.shape.format ≡ Mono
   pub depth : s.shape.depth ≡ 8
@@ -103,3 +103,4 @@ pub record IsBuilt (s : Settings) : Type 0 where
   pub quant : s.quant ≡ DeadZone
   pub signs : s.signs_apart ≡ false
   pub weights : s.weights ≡ None
+  pub filler : s.fill ≡ false

@@ -5,17 +5,16 @@ use Rattle.std.specs.Int.{is_negative}
 use Rattle.std.specs.List.{flat_map}
 use Rattle.xs_lists.specs.Bits.{bit_of}
 use Rattle.xs_lists.specs.Spelling.{upto, downto}
-use Rattle.xs_layout.specs.Geometry.{groups_of}
 use Rattle.xs_layout.specs.Candidates.{finest}
 use Rattle.xs_params.specs.declared.header.Header.{Header}
 use Rattle.xs_spelling.specs.Counts.{Line, unary, flag_bits}
 use Rattle.xs_spelling.specs.Data.{columns_of}
 use Rattle.xs_spelling.specs.Written.{written_flag, line_count_bits, line_data_bits}
-use Rattle.xs_grammar.specs.Geometry.{band_width_of}
 use Rattle.xs_grammar.specs.Precinct.{coded_line}
 use Rattle.xs_rate.specs.Coefficients.{Rows}
 use Rattle.xs_rate.specs.Content.{planes_of}
 use Rattle.xs_rate.specs.Encoding.{content_at}
+use Rattle.xs_rate.specs.Laws.{band_groups, IsSmallRow}
 
 -- the four numbers of a code group of a row
 abbrev pub numbers_of : (ℕ → ℤ) → ℕ → List ℤ
@@ -40,10 +39,6 @@ row_data row groups = flat_map (λ group. group_data (numbers_of row group) (pla
 abbrev pub finest_line : Header → Rows → ℕ → ℕ → Line
 finest_line h rows band line = coded_line h (content_at h rows finest) 0 band line
 
--- how many code groups a band's lines have
-abbrev pub band_groups : Header → ℕ → ℕ
-band_groups h band = groups_of (band_width_of h band)
-
 -- What is known of a line of small numbers at the finest candidate
 pub record IsFinest (h : Header) (rows : Rows) (band line : ℕ) : Type 0 where
   -- nothing is cut off, each count is that of the row's planes, and each number is the row's
@@ -57,10 +52,6 @@ pub record IsFinest (h : Header) (rows : Rows) (band line : ℕ) : Type 0 where
   pub no_flags : flag_bits (finest_line h rows band line) (written_flag (finest_line h rows band line)) ≡ []
   pub count_bits : line_count_bits false (finest_line h rows band line) (written_flag (finest_line h rows band line)) ≡ row_counts (rows band line) (band_groups h band)
   pub data_bits : line_data_bits false (finest_line h rows band line) ≡ row_data (rows band line) (band_groups h band)
-
--- the magnitudes of a row have 15 bits at most
-abbrev pub IsSmallRow : (ℕ → ℤ) → Type 0
-IsSmallRow row = (column : ℕ) → unsigned_abs (row column) < 2 ^ 15
 
 -- so a line of small numbers is written, with either quantiser
 abbrev pub FinestLine : Type 0

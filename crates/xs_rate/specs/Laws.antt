@@ -1,45 +1,69 @@
 -- Laws of the encoding.
-use Rattle.std.specs.Prelude.{◌≡◌, ℕ, ◌^◌, ◌<◌, ◌≤◌, IsTrue, unsigned_abs, List, length, All}
+use Rattle.std.specs.Prelude.{◌≡◌, ℕ, ◌^◌, ◌<◌, ◌≤◌, true, false, ℤ, pos, unsigned_abs, List, length, All}
 use Rattle.std.specs.List.{sum_by, Contains}
-use Rattle.xs_layout.specs.Geometry.{PacketPlace}
-use Rattle.xs_layout.specs.declared.Format.TheVariants.{Mono}
+use Rattle.xs_layout.specs.Geometry.{PacketPlace, groups_of}
+use Rattle.xs_layout.specs.Limits.{most_across, most_columns, most_down, most_width}
 use Rattle.xs_params.specs.declared.header.Header.{Header}
-use Rattle.xs_params.specs.Picture.{Picture}
+use Rattle.xs_params.specs.Picture.{Picture, columns_of_all}
 use Rattle.xs_params.specs.declared.settings.Settings.{Settings}
 use Rattle.xs_params.specs.Check.{AreInRange}
 use Rattle.xs_params.specs.Headers.{header_of}
 use Rattle.xs_params.specs.Stream.{stream_bytes}
-use Rattle.xs_grammar.specs.Geometry.{packet_bands, packets_of, slice_count}
-use Rattle.xs_rate.specs.Coefficients.{Rows, rows_of}
-use Rattle.xs_rate.specs.Encoding.{IsBuilt, stream_of, coarsest, fields_fit_at}
-use Rattle.xs_rate.specs.Finest.{IsSmallRow, band_groups}
+use Rattle.xs_params.specs.Geometry.{band_width_of, packet_bands, packets_of, slice_count}
+use Rattle.xs_grammar.specs.Precinct.{Content, line_truncation}
+use Rattle.xs_grammar.specs.Coded.{no_filler, slice_fits}
+use Rattle.xs_rate.specs.Coefficients.{Rows, rows_of_picture}
+use Rattle.xs_rate.specs.Encoding.{stream_of}
 
 -- Rows
 
 -- the coefficients of every picture are small
 abbrev pub SmallRows : Type 0
-SmallRows = (h : Header) (picture : Picture) (band line column : ℕ) → unsigned_abs (rows_of h picture band line column) ≤ 32767
+SmallRows = (h : Header) (picture : Picture) (band line column : ℕ) → unsigned_abs (rows_of_picture h picture band line column) ≤ 32767
 
--- Fields
+-- the magnitudes of a row have 15 bits at most
+abbrev pub IsSmallRow : (ℕ → ℤ) → Type 0
+IsSmallRow row = (column : ℕ) → unsigned_abs (row column) < 2 ^ 15
 
 abbrev pub AreSmall : Rows → Type 0
 AreSmall rows = (band line : ℕ) → IsSmallRow (rows band line)
 
--- at the coarsest candidate each length in a slice has room in its field
-abbrev pub CoarsestFits : Type 0
-CoarsestFits = (s : Settings) (rows : Rows) (slice : ℕ) → IsBuilt s → AreInRange s → AreSmall rows → IsTrue (fields_fit_at (header_of s) rows slice (coarsest (header_of s)))
+-- Fields
+
+-- how many code groups a band's lines have
+abbrev pub band_groups : Header → ℕ → ℕ
+band_groups h band = groups_of (band_width_of h band)
+
+-- each packet has at most so many code groups
+abbrev pub HasNarrowPackets : ℕ → Header → Type 0
+HasNarrowPackets most h = (precinct : ℕ) (place : PacketPlace) → Contains (packets_of h precinct) place → sum_by (band_groups h) (packet_bands h place) ≤ most
+
+-- a packet of a picture has at most 6157 code groups
+abbrev pub PacketsAreNarrow : Type 0
+PacketsAreNarrow = (h : Header) → h.shape.width ≤ most_width → h.nlx ≤ most_across → h.nly ≤ h.nlx → HasNarrowPackets 6157 h
+
+-- each count is in range and not below the truncation
+pub record HasCountsInRange (h : Header) (content : Content) : Type 0 where
+  pub most : (band line group : ℕ) → content.count band line group ≤ 15
+  pub cut : (band line group : ℕ) → line_truncation h content band line ≤ content.count band line group
+
+-- where the components together have few columns each length has room in its field, whatever the truncations, numbers, modes, quantiser and signs
+abbrev pub SlicesFit : Type 0
+SlicesFit = (h : Header) (content : Content) (mode : ℕ → ℕ → ℕ) (slice : ℕ) → h.long_heads ≡ false → h.nlx ≤ most_across → h.nly ≤ most_down → h.nly ≤ h.nlx → columns_of_all h.shape ≤ most_columns
+    → HasCountsInRange h content → slice_fits h content mode no_filler slice ≡ true
+
+-- every plane is cut off: each truncation is 15, and so is each count, which is in range and not below it; each number is 0
+pub record IsAllCut (h : Header) (content : Content) : Type 0 where
+  pub truncations : (band line : ℕ) → line_truncation h content band line ≡ 15
+  pub counts : (band line group : ℕ) → content.count band line group ≡ 15
+  pub values : (band line column : ℕ) → content.value band line column ≡ pos 0
+
+-- then so it is however many columns there are: a code group has at most one bit of counts, and there are no data and no signs
+abbrev pub AllCutFits : Type 0
+AllCutFits = (h : Header) (content : Content) (mode : ℕ → ℕ → ℕ) (slice : ℕ) → h.long_heads ≡ false → h.nly ≤ most_down → HasNarrowPackets 6157 h → IsAllCut h content
+    → slice_fits h content mode no_filler slice ≡ true
 
 -- and the length of a codestream has room in its field, where each slice is within its share
 abbrev pub LengthFits : Type 0
-LengthFits = (s : Settings) (slices : List (List ℕ)) → IsBuilt s → AreInRange s → length slices ≡ slice_count (header_of s) → All (λ slice. length slice ≤ s.share) slices
+LengthFits = (s : Settings) (slices : List (List ℕ)) → AreInRange s → length slices ≡ slice_count (header_of s) → All (λ slice. length slice ≤ s.share) slices
     → length (stream_bytes (stream_of (header_of s) slices)) < 2 ^ 32
-
--- Packets
-
--- a packet has at most 2054 code groups
-abbrev pub IsNarrow : Header → Type 0
-IsNarrow h = (precinct : ℕ) (place : PacketPlace) → Contains (packets_of h precinct) place → sum_by (band_groups h) (packet_bands h place) ≤ 2054
-
--- so it is with grey pictures
-abbrev pub GreyIsNarrow : Type 0
-GreyIsNarrow = (h : Header) → h.shape.format ≡ Mono → h.shape.width ≤ 8192 → h.nlx ≤ 5 → h.nly ≤ h.nlx → IsNarrow h

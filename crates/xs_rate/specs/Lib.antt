@@ -3,7 +3,9 @@ pub mod Content
 pub mod Modes
 pub mod Built
 pub mod Encoding
-pub mod Finest
+pub mod Chosen
+pub mod Choice
 pub mod Laws
+pub mod Finest
 pub mod Encoded
 pub mod WrittenOut

@@ -1,18 +1,10 @@
 -- The mode of a band in a precinct: 'Rate choice'.
-use Rattle.std.specs.Prelude.{ℕ, ◌+◌, ◌-◌, ◌<◌, ◌≤◌, Bool, false, nat_le, unwrap_or, List, [], ◌∷◌, length, find, sum_by}
+use Rattle.std.specs.Prelude.{ℕ, ◌+◌, ◌-◌, ◌<◌, ◌≤◌, Bool, nat_le, unwrap_or, List, [], ◌∷◌, find, sum_by}
 use Rattle.std.specs.List.{list_all, range_with_len}
 use Rattle.xs_params.specs.declared.header.Header.{Header}
-use Rattle.xs_spelling.specs.Counts.{Line, flag_bits}
-use Rattle.xs_spelling.specs.Written.{written_flag, line_count_bits}
-use Rattle.xs_grammar.specs.Geometry.{lines_of}
+pub use Rattle.xs_spelling.specs.Sizes.{flag_size, count_size}
+use Rattle.xs_params.specs.Geometry.{lines_of}
 use Rattle.xs_grammar.specs.Precinct.{Content, coded_line}
-
--- the bits of a line's significance flags and of its counts
-abbrev pub flag_size : Line → ℕ
-flag_size line = length (flag_bits line (written_flag line))
-
-abbrev pub count_size : Line → ℕ
-count_size line = length (line_count_bits false line (written_flag line))
 
 -- the lines of a band in a precinct
 abbrev pub band_lines : Header → ℕ → ℕ → List ℕ

@@ -1,5 +1,5 @@
 -- What is built, written out: the packets of each precinct of a grey picture, at the finest candidate and with mode 0. 'Slice, precinct and packet'.
-use Rattle.std.specs.Prelude.{◌≡◌, ℕ, ◌+◌, ◌*◌, ◌≤◌, List, [], ◌∷◌, ◌++◌, length, map}
+use Rattle.std.specs.Prelude.{◌≡◌, ℕ, ◌^◌, ◌<◌, List, [], ◌∷◌, ◌++◌, length, map}
 use Rattle.std.specs.List.{flat_map, Contains}
 use Rattle.xs_lists.specs.Packing.{packed}
 use Rattle.xs_lists.specs.Spelling.{upto}
@@ -9,13 +9,13 @@ use Rattle.xs_params.specs.declared.header.Header.{Header}
 use Rattle.xs_params.specs.declared.settings.Settings.{Settings}
 use Rattle.xs_params.specs.Check.{AreInRange}
 use Rattle.xs_params.specs.Headers.{header_of}
-use Rattle.xs_grammar.specs.Geometry.{bands_of, packet_bands, packets_of, precincts_of}
+use Rattle.xs_params.specs.Geometry.{bands_of, packet_bands, packets_of, precincts_of}
 use Rattle.xs_grammar.specs.Slice.{slice_head}
-use Rattle.xs_grammar.specs.Coded.{field_bytes, header_bytes}
+use Rattle.xs_grammar.specs.Coded.{field_bytes}
 use Rattle.xs_rate.specs.Coefficients.{Rows}
-use Rattle.xs_rate.specs.Encoding.{IsBuilt, with_length, slice_at, slices_at, size_at, coarsest, chosen_candidate}
-use Rattle.xs_rate.specs.Finest.{band_groups, row_counts, row_data}
-use Rattle.xs_rate.specs.Laws.{AreSmall}
+use Rattle.xs_rate.specs.Encoding.{IsBuilt, slice_at, slices_at, size_at, coarsest, chosen_candidate}
+use Rattle.xs_rate.specs.Laws.{AreSmall, band_groups}
+use Rattle.xs_rate.specs.Finest.{row_counts, row_data}
 
 -- One candidate
 
@@ -58,18 +58,16 @@ finest_head h size = (24, size) ∷ (8, 0) ∷ (8, 0) ∷ map (λ _. (2, 0)) (up
 abbrev pub finest_precinct : Header → Rows → ℕ → List ℕ
 finest_precinct h rows precinct = field_bytes (finest_head h (length (finest_body h rows precinct))) ++ finest_body h rows precinct
 
--- the parts of a packet are small: it has at most 2054 code groups
-pub record IsSmallPacket (h : Header) (rows : Rows) (place : PacketPlace) : Type 0 where
-  pub counts : length (finest_counts h rows place) ≤ 4108
-  pub numbers : length (finest_data h rows place) ≤ 16432
+-- the sizes of the parts of a packet have room in its header
+pub record HasPartsRoom (h : Header) (rows : Rows) (place : PacketPlace) : Type 0 where
+  pub counts : length (finest_counts h rows place) < 2 ^ 13
+  pub numbers : length (finest_data h rows place) < 2 ^ 15
 
--- the size of the header, whatever length it states; the precincts of a slice, and its bytes; the parts of each packet are small, and so is each precinct
+-- the bytes of a slice; each size of a packet's parts and of a precinct has room in its field
 pub record AreFinestSlices (h : Header) (rows : Rows) : Type 0 where
-  pub header : (lcod : ℕ) → length (header_bytes (with_length h lcod)) ≡ 44 + 2 * bands_of h
-  pub bands : bands_of h ≤ 10
   pub bytes : (slice : ℕ) → slice_at h rows slice finest ≡ slice_head slice ++ flat_map (finest_precinct h rows) (precincts_of h slice)
-  pub packets : (precinct : ℕ) (place : PacketPlace) → Contains (packets_of h precinct) place → IsSmallPacket h rows place
-  pub bodies : (precinct : ℕ) → length (finest_body h rows precinct) ≤ 205450
+  pub packets : (precinct : ℕ) (place : PacketPlace) → Contains (packets_of h precinct) place → HasPartsRoom h rows place
+  pub bodies : (precinct : ℕ) → length (finest_body h rows precinct) < 2 ^ 24
 
 abbrev pub FinestSlices : Type 0
 FinestSlices = (s : Settings) (rows : Rows) → IsBuilt s → AreInRange s → AreSmall rows → AreFinestSlices (header_of s) rows

@@ -2,7 +2,7 @@
 use Rattle.std.proofs.Common.{◌≡◌, ℕ, zero, suc, ◌<◌, ℤ, arith, ap, ◌∙◌, refl, Bool, true, false}
 use Rattle.std.specs.Prelude.{if◌then◌else◌}
 use Rattle.xs_signal.specs.Samples.{scale_out}
-use Rattle.xs_signal.specs.Wavelet.{Bands, bands_of, inverse_plane}
+use Rattle.xs_signal.specs.Wavelet.{Bands, bands_of_plane, inverse_plane}
 use Rattle.xs_signal.specs.Picture.{Signal, one_of, coloured, uncoloured, scaled, synthesised, PictureBack}
 use Rattle.xs_signal.proofs.Laws.{colour_undone, scale_out_undoes_in}
 use Rattle.xs_signal.proofs.PlaneLaws.{plane_back}
@@ -20,11 +20,11 @@ uncoloured_back planes component row column inside =
 same_components : {p q : ℕ → ℕ → ℕ → ℤ} → ((component : ℕ) → p component ≡ q component) → p ≡ q
 same_components same = λ i component. same component i
 
-planes_back : (s : Signal) (planes : ℕ → ℕ → ℕ → ℤ) → (λ component. inverse_plane (s.split component) (bands_of (s.split component) (planes component))) ≡ planes
+planes_back : (s : Signal) (planes : ℕ → ℕ → ℕ → ℤ) → (λ component. inverse_plane (s.split component) (bands_of_plane (s.split component) (planes component))) ≡ planes
 planes_back s planes = same_components (λ component. plane_back (s.split component) (planes component))
 
 numbers_back : (s : Signal) (planes : ℕ → ℕ → ℕ → ℤ) (component row column : ℕ) (colour : Bool) → component < 3
-    → (let bands : ℕ → Bands = λ k. bands_of (s.split k) ((if colour then coloured planes else planes) k) in (if colour then uncoloured (synthesised s bands) else synthesised s bands) component row column) ≡ planes component row column
+    → (let bands : ℕ → Bands = λ k. bands_of_plane (s.split k) ((if colour then coloured planes else planes) k) in (if colour then uncoloured (synthesised s bands) else synthesised s bands) component row column) ≡ planes component row column
 numbers_back s planes component row column true inside = ap (λ p. uncoloured p component row column) (planes_back s (coloured planes)) ∙ uncoloured_back planes component row column inside
 numbers_back s planes component row column false inside = ap (λ p. p component row column) (planes_back s planes)
 

@@ -3,7 +3,7 @@ use Rattle.std.proofs.Common.{◌≡◌, ℕ, zero, suc, ◌+◌, ◌-◌, ◌<�
 use Rattle.std.proofs.lemmas.Bool.{lt-ltb}
 use Rattle.std.specs.Prelude.{if◌then◌else◌}
 use Rattle.xs_signal.specs.Lines.{column_of}
-use Rattle.xs_signal.specs.Wavelet.{Split, Bands, low_count_at, rows_low, rows_high, columns_low, columns_high, columns_kept, low_part, bands_of, rows_joined, columns_joined, joined, restored, inverse_plane, SameBands, PlaneUndone}
+use Rattle.xs_signal.specs.Wavelet.{Split, Bands, low_count_at, rows_low, rows_high, columns_low, columns_high, columns_kept, low_part, bands_of_plane, rows_joined, columns_joined, joined, restored, inverse_plane, SameBands, PlaneUndone}
 use Rattle.xs_signal.proofs.LineLaws.{line_back, low_forth, high_forth}
 
 -- equal at each row and column
@@ -48,19 +48,19 @@ step_back s level q b false is hl lh hh =
     else rows_joined s level (rows_low s level (columns_kept s level q)) (b.hl (level + 1))) is
     ∙ ap (rows_joined s level (rows_low s level (columns_kept s level q))) hl ∙ rows_back s level (columns_kept s level q) ∙ kept
 
-joined_back : (s : Split) (p : ℕ → ℕ → ℤ) (level : ℕ) → joined s (bands_of s p) level (low_part s p (suc level)) ≡ low_part s p level
+joined_back : (s : Split) (p : ℕ → ℕ → ℤ) (level : ℕ) → joined s (bands_of_plane s p) level (low_part s p (suc level)) ≡ low_part s p level
 joined_back s p level =
     let one : level + 1 - 1 ≡ level = omega arith in
-    step_back s level (low_part s p level) (bands_of s p) (nat_lt level s.down) refl (ap (λ l. rows_high s l (columns_kept s l (low_part s p l))) one)
+    step_back s level (low_part s p level) (bands_of_plane s p) (nat_lt level s.down) refl (ap (λ l. rows_high s l (columns_kept s l (low_part s p l))) one)
     (ap (λ l. rows_low s l (columns_high s l (low_part s p l))) one) (ap (λ l. rows_high s l (columns_high s l (low_part s p l))) one)
 
-restored_back : (s : Split) (p : ℕ → ℕ → ℤ) (steps : ℕ) → steps ≤ s.across → restored s (bands_of s p) steps ≡ low_part s p (s.across - steps)
+restored_back : (s : Split) (p : ℕ → ℕ → ℤ) (steps : ℕ) → steps ≤ s.across → restored s (bands_of_plane s p) steps ≡ low_part s p (s.across - steps)
 restored_back s p zero inside = let all : s.across ≡ s.across - 0 = omega arith in ap (low_part s p) all
 restored_back s p (suc steps) inside =
     let next : s.across - steps ≡ suc (s.across - suc steps) = omega arith in
-    ap (joined s (bands_of s p) (s.across - suc steps)) (restored_back s p steps (omega arith) ∙ ap (low_part s p) next) ∙ joined_back s p (s.across - suc steps)
+    ap (joined s (bands_of_plane s p) (s.across - suc steps)) (restored_back s p steps (omega arith) ∙ ap (low_part s p) next) ∙ joined_back s p (s.across - suc steps)
 
-pub plane_back : (s : Split) (p : ℕ → ℕ → ℤ) → inverse_plane s (bands_of s p) ≡ p
+pub plane_back : (s : Split) (p : ℕ → ℕ → ℤ) → inverse_plane s (bands_of_plane s p) ≡ p
 plane_back s p = let none : s.across - s.across ≡ 0 = omega arith in restored_back s p s.across (omega arith) ∙ ap (low_part s p) none
 
 -- ---- forth
@@ -115,7 +115,7 @@ lh_forth s b level inside deep = ap (rows_low s level) (high_forth_at s b level 
 hh_forth : (s : Split) (b : Bands) (level : ℕ) → level < s.across → level < s.down → rows_high s level (columns_high s level (low_part s (inverse_plane s b) level)) ≡ b.hh (level + 1)
 hh_forth s b level inside deep = ap (rows_high s level) (high_forth_at s b level inside deep) ∙ rows_high_forth s level (b.lh (level + 1)) (b.hh (level + 1))
 
-pub plane_forth : (s : Split) (b : Bands) → s.down ≤ s.across → SameBands s (bands_of s (inverse_plane s b)) b
+pub plane_forth : (s : Split) (b : Bands) → s.down ≤ s.across → SameBands s (bands_of_plane s (inverse_plane s b)) b
 plane_forth s b deep = record {
   ll = λ row column. let none : s.across - s.across ≡ 0 = omega arith in ap (λ p. p row column) (part_forth s b s.across (omega arith) ∙ ap (restored s b) none);
   hl = λ level row column one inside. let next : level - 1 + 1 ≡ level = omega arith in ap (λ p. p row column) (hl_forth s b (level - 1) (omega arith) ∙ ap b.hl next);

@@ -3,7 +3,7 @@
 use Rattle.std.specs.Prelude.{◌≡◌, ℕ, zero, suc, ◌^◌, ◌<◌, ℤ, pos, ◌*ℤ◌, Bool, if◌then◌else◌}
 use Rattle.xs_signal.specs.Samples.{scale_in, scale_out}
 use Rattle.xs_signal.specs.Colour.{rct, unrct}
-use Rattle.xs_signal.specs.Wavelet.{Split, Bands, bands_of, inverse_plane}
+use Rattle.xs_signal.specs.Wavelet.{Split, Bands, bands_of_plane, inverse_plane}
 use Rattle.xs_signal.specs.Fold.{fold}
 
 -- How a picture is taken apart: each component's split, the bits of a sample, those of the numbers inside and those of
@@ -44,15 +44,15 @@ scaled s picture component row column = scale_in s.depth s.bw (picture component
 
 -- the bands of each component, at full precision
 abbrev pub analysed : Signal → (ℕ → ℕ → ℕ → ℕ) → ℕ → Bands
-analysed s picture component = bands_of (s.split component) ((if s.colour then coloured (scaled s picture) else scaled s picture) component)
+analysed s picture component = bands_of_plane (s.split component) ((if s.colour then coloured (scaled s picture) else scaled s picture) component)
 
 -- the planes with these bands
 abbrev pub synthesised : Signal → (ℕ → Bands) → ℕ → ℕ → ℕ → ℤ
 synthesised s bands component = inverse_plane (s.split component) (bands component)
 
 -- the samples with these bands at full precision
-abbrev pub picture_of : Signal → (ℕ → Bands) → ℕ → ℕ → ℕ → ℕ
-picture_of s bands component row column = scale_out s.depth s.bw ((if s.colour then uncoloured (synthesised s bands) else synthesised s bands) component row column)
+abbrev pub picture_of_bands : Signal → (ℕ → Bands) → ℕ → ℕ → ℕ → ℕ
+picture_of_bands s bands component row column = scale_out s.depth s.bw ((if s.colour then uncoloured (synthesised s bands) else synthesised s bands) component row column)
 
 -- the coefficients that are sent of a picture, before the quantiser
 abbrev pub coefficients_of : Signal → (ℕ → ℕ → ℕ → ℕ) → ℕ → Bands
@@ -60,9 +60,9 @@ coefficients_of s picture component = each_entry (fold s.fq) (analysed s picture
 
 -- the picture of coefficients that came back from the quantiser
 abbrev pub decoded_picture : Signal → (ℕ → Bands) → ℕ → ℕ → ℕ → ℕ
-decoded_picture s coefficients = picture_of s (λ component. each_entry (λ z. z *ℤ pos (2 ^ s.fq)) (coefficients component))
+decoded_picture s coefficients = picture_of_bands s (λ component. each_entry (λ z. z *ℤ pos (2 ^ s.fq)) (coefficients component))
 
 -- where nothing is rounded, each sample comes back
 abbrev pub PictureBack : Type 0
 PictureBack = (s : Signal) (picture : ℕ → ℕ → ℕ → ℕ) (component row column : ℕ) → component < 3 → 0 < s.depth → s.depth < s.bw → picture component row column < 2 ^ s.depth
-    → picture_of s (analysed s picture) component row column ≡ picture component row column
+    → picture_of_bands s (analysed s picture) component row column ≡ picture component row column

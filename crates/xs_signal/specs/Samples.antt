@@ -2,14 +2,6 @@
 use Rattle.std.specs.Prelude.{◌≡◌, ◌⊎◌, ℕ, ◌-◌, ◌*◌, ◌^◌, ◌<◌, min, ℤ, pos, negsuc, ◌+ℤ◌, ◌-ℤ◌}
 use Rattle.std.specs.Int.{int_shr}
 
--- the bits that a sample may have
-abbrev pub IsDepth : ℕ → Type 0
-IsDepth depth = (depth ≡ 8) ⊎ (depth ≡ 10) ⊎ (depth ≡ 12)
-
--- the bits that the numbers inside may have
-abbrev pub IsPrecision : ℕ → Type 0
-IsPrecision bw = (bw ≡ 18) ⊎ (bw ≡ 20)
-
 -- a sample of `depth` bits, raised to `bw` bits and centred round 0
 abbrev pub scale_in : ℕ → ℕ → ℕ → ℤ
 scale_in depth bw sample = pos (sample * 2 ^ (bw - depth)) -ℤ pos (2 ^ (bw - 1))

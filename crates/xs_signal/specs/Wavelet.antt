@@ -14,8 +14,8 @@ high_count n = n / 2
 
 -- What the even samples say of the odd sample k: half the sum of its two neighbours, rounded down. The line is mirrored
 -- at its end: the even sample after the last is the last.
-abbrev pub predicted : ℕ → (ℕ → ℤ) → ℕ → ℤ
-predicted n even k = int_shr (even k +ℤ even (min (k + 1) (low_count n - 1))) 1
+abbrev pub predicted_sample : ℕ → (ℕ → ℤ) → ℕ → ℤ
+predicted_sample n even k = int_shr (even k +ℤ even (min (k + 1) (low_count n - 1))) 1
 
 -- What the high part adds to the even sample k: a quarter of its two neighbours and 2, rounded down. The line is mirrored
 -- at both ends: the entry before the first is the first, the one after the last is the last.
@@ -28,7 +28,7 @@ evens_of line k = line (2 * k)
 
 -- the high part of a line of n samples: each odd sample less what the even ones say of it
 abbrev pub high_of : ℕ → (ℕ → ℤ) → ℕ → ℤ
-high_of n line k = line (2 * k + 1) -ℤ predicted n (evens_of line) k
+high_of n line k = line (2 * k + 1) -ℤ predicted_sample n (evens_of line) k
 
 -- the low part of a line of n samples: each even sample and what the high part adds
 abbrev pub low_of : ℕ → (ℕ → ℤ) → ℕ → ℤ
@@ -40,7 +40,7 @@ even_of n low high k = low k -ℤ updated n high k
 
 -- its odd samples
 abbrev pub odd_of : ℕ → (ℕ → ℤ) → (ℕ → ℤ) → ℕ → ℤ
-odd_of n low high k = high k +ℤ predicted n (even_of n low high) k
+odd_of n low high k = high k +ℤ predicted_sample n (even_of n low high) k
 
 -- the line of n samples with this low and high part
 abbrev pub inverse_line : ℕ → (ℕ → ℤ) → (ℕ → ℤ) → ℕ → ℤ
@@ -98,8 +98,8 @@ low_part s p zero = p
 low_part s p (suc level) = rows_low s level (columns_kept s level (low_part s p level))
 
 -- all bands of a plane
-abbrev pub bands_of : Split → (ℕ → ℕ → ℤ) → Bands
-bands_of s p = record {
+abbrev pub bands_of_plane : Split → (ℕ → ℕ → ℤ) → Bands
+bands_of_plane s p = record {
   ll = low_part s p s.across;
   hl = λ level. rows_high s (level - 1) (columns_kept s (level - 1) (low_part s p (level - 1)));
   lh = λ level. rows_low s (level - 1) (columns_high s (level - 1) (low_part s p (level - 1)));
@@ -162,8 +162,8 @@ pub record SameBands (s : Split) (a b : Bands) : Type 0 where
 
 -- splitting a plane and joining its bands gives the plane, and joining bands and splitting gives the bands
 pub record PlaneUndone : Type 0 where
-  pub back : (s : Split) (p : ℕ → ℕ → ℤ) (row column : ℕ) → inverse_plane s (bands_of s p) row column ≡ p row column
-  pub forth : (s : Split) (b : Bands) → s.down ≤ s.across → SameBands s (bands_of s (inverse_plane s b)) b
+  pub back : (s : Split) (p : ℕ → ℕ → ℤ) (row column : ℕ) → inverse_plane s (bands_of_plane s p) row column ≡ p row column
+  pub forth : (s : Split) (b : Bands) → s.down ≤ s.across → SameBands s (bands_of_plane s (inverse_plane s b)) b
 
 -- the sizes of the parts are those of the band geometry
 pub record SizesAgree : Type 0 where

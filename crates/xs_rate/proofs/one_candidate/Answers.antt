@@ -1,4 +1,4 @@
-use Rattle.xs_rate.proofs.GreySlices as laws
+use Rattle.xs_rate.proofs.FinestSlices as laws
 use Rattle.xs_rate.proofs.one_candidate.Goals as goal
 
 pub returns : goal.returns
