@@ -2,11 +2,11 @@
 use Rattle.std.proofs.Common.{◌≡◌, ℕ, zero, suc, ◌+◌, ◌-◌, ◌*◌, ◌/◌, ◌^◌, ◌<◌, ◌≤◌, arith}
 use Rattle.std.proofs.Math.Nat.{le-div_iff_mul-le}
 use Rattle.xs_params.specs.declared.header.Header.{Header}
-use Rattle.xs_grammar.specs.Geometry.{bands_of, precinct_count, slice_count}
+use Rattle.xs_params.specs.Geometry.{bands_of, precinct_count, slice_count}
 use Rattle.xs_layout.specs.declared.Format.{Format}
 use Rattle.xs_layout.specs.declared.Format.TheVariants.{Mono, C422, C444}
 use Rattle.xs_layout.specs.Geometry.{components_of, precinct_count_of}
-use Rattle.xs_geometry.specs.Kept.{IsGeometry}
+use Rattle.xs_params.specs.Accepted.{IsGeometry}
 use Rattle.xs_geometry.specs.SliceLines.{slice_height, first_line_of, end_line_of}
 
 pub small_power : (k : ℕ) → k ≤ 5 → 2 ^ k ≤ 32
@@ -31,7 +31,7 @@ few_precincts height (suc (suc zero)) most few = omega (arith, most)
 few_precincts height (suc (suc (suc nly))) most few = absurd (omega (arith, few))
 
 pub precincts_most : (h : Header) → IsGeometry h → precinct_count h ≤ 8192
-precincts_most h ranges = few_precincts h.shape.height h.nly ranges.height.1 ranges.nly.0
+precincts_most h ranges = few_precincts h.shape.height h.nly ranges.shape.height.1 (omega (arith, ranges.nly))
 
 few_bands : (f : Format) (types : ℕ) → types ≤ 10 → types * components_of f ≤ 30
 few_bands Mono types few = omega (arith, few)
@@ -39,7 +39,7 @@ few_bands C422 types few = omega (arith, few)
 few_bands C444 types few = omega (arith, few)
 
 pub bands_most : (h : Header) → IsGeometry h → bands_of h ≤ 30
-bands_most h ranges = few_bands h.shape.format (2 * h.nly + h.nlx + 1) (omega (arith, ranges.nlx.1, ranges.nly.0))
+bands_most h ranges = few_bands h.shape.format (2 * h.nly + h.nlx + 1) (omega (arith, ranges.nlx.1, ranges.nly))
 
 -- a slice has a precinct
 pub slice_begins : (h : Header) (slice : ℕ) → 1 ≤ h.hsl → slice < slice_count h → slice * h.hsl < precinct_count h

@@ -5,6 +5,6 @@ pub mod Filtered
 pub mod PlaceFacts
 pub mod PlaceNumbers
 pub mod PacketLines
-pub mod Kept
-pub mod Blanks
 pub mod WrittenRows
+pub mod LentRows
+pub mod BlockRows

@@ -8,8 +8,8 @@ use Rattle.std.proofs.lemmas.Nat.{div-mul-add, pow_pos}
 use Rattle.xs_layout.specs.Geometry.{PacketPlace, low_size, components_of}
 use Rattle.xs_layout.proofs.Places.{below_bands, types_of_band}
 use Rattle.xs_params.specs.declared.header.Header.{Header}
-use Rattle.xs_grammar.specs.Geometry.{bands_of, band_height_of, has_line, packet_bands, packet_places, packets_of, precinct_count, precinct_lines, precincts_of, slice_count}
-use Rattle.xs_geometry.specs.Kept.{IsGeometry}
+use Rattle.xs_params.specs.Geometry.{bands_of, band_height_of, has_line, packet_bands, packet_places, packets_of, precinct_count, precinct_lines, precincts_of, slice_count}
+use Rattle.xs_params.specs.Accepted.{IsGeometry}
 use Rattle.xs_geometry.specs.Places.{no_place, place_in, packet_at}
 use Rattle.xs_geometry.specs.Lines.{IsLineOf, PacketsHaveLines, HoldsLine, LineInOnePacket, SliceHasLines, SliceHasPackets}
 use Rattle.xs_geometry.specs.SliceLines.{slice_height}

@@ -7,7 +7,7 @@ use Rattle.xs_layout.specs.declared.Format.TheVariants.{Mono, C422, C444}
 use Rattle.xs_layout.specs.Geometry.{BandType, PacketPlace, ll, band_types, components_of, low_size, high_size, side_size}
 use Rattle.xs_layout.proofs.Places.{types_of_band, wide_down}
 use Rattle.xs_params.specs.declared.header.Header.{Header}
-use Rattle.xs_grammar.specs.Geometry.{band_height_of, packet_bands}
+use Rattle.xs_params.specs.Geometry.{band_height_of, packet_bands}
 use Rattle.xs_geometry.specs.Sides.{deep_side}
 use Rattle.xs_geometry.proofs.Types.{wide_type, deep_type}
 

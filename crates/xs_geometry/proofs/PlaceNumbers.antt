@@ -4,7 +4,7 @@ use Rattle.std.specs.List.{Contains}
 use Rattle.std.proofs.lemmas.Bool.{cases_lt}
 use Rattle.xs_layout.specs.Geometry.{PacketPlace, components_of, packet_places_of}
 use Rattle.xs_params.specs.declared.header.Header.{Header}
-use Rattle.xs_grammar.specs.Geometry.{band_height_of, packet_bands, packet_places}
+use Rattle.xs_params.specs.Geometry.{band_height_of, packet_bands, packet_places}
 use Rattle.xs_geometry.specs.Places.{place_in}
 use Rattle.xs_geometry.proofs.Places.{one_type, second_level, places_counted}
 use Rattle.xs_geometry.proofs.PlaceFacts.{types_in, bands_in, type_number, type_at, rows_in, lines_in, first_height, wide_rows, wide_lines, deep_lines}

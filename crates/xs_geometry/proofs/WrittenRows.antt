@@ -1,11 +1,10 @@
 -- What a row that was written changes.
-use Rattle.std.proofs.Common.{◌≡◌, ◌≢◌, ◌↔◌, ℕ, ◌+◌, ◌-◌, ◌<◌, ◌≤◌, ℤ, List, [], ◌++◌, length, take, drop, get_or, refl, sym, ap, subst, ◌∙◌, arith, inl, inr, length-set, get_or-set_other}
-use Rattle.std.proofs.Math.Seq.{take-append_seam}
+use Rattle.std.proofs.Common.{◌≡◌, ◌≢◌, ◌↔◌, ℕ, ◌+◌, ◌-◌, ◌<◌, ◌≤◌, ℤ, List, [], length, get_or, refl, sym, ap, subst, ◌∙◌, arith, inl, inr, length-set, get_or-set_other}
 use Rattle.std.proofs.lemmas.Bool.{cases_eq}
 use Rattle.std.proofs.lemmas.Grind.{get_or-set_at}
-use Rattle.xs_grammar.specs.Geometry.{band_width_of}
+use Rattle.xs_params.specs.Geometry.{band_width_of}
 use Rattle.xs_geometry.specs.SliceLines.{BandLines, no_lines, lines_at, row_at, HasLine, first_line_of}
-use Rattle.xs_geometry.specs.Written.{with_line, with_row, kept}
+use Rattle.xs_geometry.specs.Written.{with_line, with_row}
 use Rattle.xs_geometry.specs.Laws.{RowWritten, LinesKept, AcceptedRanges, GeometryKept}
 
 -- the lines of the band, and those of another
@@ -85,18 +84,11 @@ lines_kept h slice bands band line row are there whole =
 
 pub accepted_ranges : AcceptedRanges
 accepted_ranges h accepted =
-    let two : h.nly ≤ 2 = omega (arith, accepted.nly) in
-    let deep : h.nly ≤ h.nlx = omega (arith, accepted.nly) in (
-      record { width = accepted.width; height = accepted.height; hsl = accepted.hsl; nlx = accepted.nlx; nly = (two, deep) },
-      record { width = accepted.width; height = accepted.height; hsl = accepted.hsl; nlx = accepted.nlx; nly = (two, deep) },
-    )
+    let g = accepted.geometry in
+    (g, record { shape = g.shape; hsl = g.hsl; nlx = g.nlx; nly = g.nly; slices = g.slices; narrow = g.narrow })
 
 pub geometry_kept : GeometryKept
 geometry_kept h slice bands = (
   (λ are. record { count = are.count; first = are.first; lines = are.lines; width = are.width }),
   (λ are. record { count = are.count; first = are.first; lines = are.lines; width = are.width }),
 )
-
--- a row of the same length stands in the place of the old one
-pub kept_whole : (old new : List ℤ) → length new ≡ length old → kept old new ≡ new
-kept_whole old new same = ap (λ n. take n (new ++ drop (length new) old)) (sym same) ∙ take-append_seam new (drop (length new) old)

@@ -1,10 +1,10 @@
 -- Laws of rows that were written, and of the geometry that is kept of a header.
 use Rattle.std.specs.Prelude.{◌≡◌, ◌≢◌, ◌⊎◌, ◌↔◌, ℕ, ℤ, List, length}
 use Rattle.xs_params.specs.declared.header.Header.{Header}
-use Rattle.xs_grammar.specs.Header.{IsAccepted}
+use Rattle.xs_params.specs.Accepted.{IsAccepted, IsGeometry}
 use Rattle.xs_geometry.specs.SliceLines.{BandLines, row_at, HasLine, AreLinesOf}
-use Rattle.xs_geometry.specs.Kept.{geometry_of, IsGeometry}
-use Rattle.xs_geometry.specs.Written.{with_row}
+use Rattle.xs_params.specs.Geometry.{geometry_of}
+use Rattle.xs_geometry.specs.Written.{with_row, with_lent}
 
 -- a row was written in the place of another of its length, and all else is as before
 pub record IsWritten (bands : List BandLines) (band line : ℕ) (row : List ℤ) : Type 0 where
@@ -15,6 +15,10 @@ pub record IsWritten (bands : List BandLines) (band line : ℕ) (row : List ℤ)
 -- it is so with each row that is there
 abbrev pub RowWritten : Type 0
 RowWritten = (bands : List BandLines) (band line : ℕ) (row : List ℤ) → HasLine bands band line → IsWritten bands band line row
+
+-- a row that is left behind a reference stands in the place of the old one, if it is as long
+abbrev pub RowLent : Type 0
+RowLent = (bands : List BandLines) (band line : ℕ) (row : List ℤ) → HasLine bands band line → length row ≡ length (row_at bands band line) → with_lent bands band line row ≡ with_row bands band line row
 
 -- the lines of a slice are those of the slice after a row of the same length was written
 abbrev pub LinesKept : Type 0

@@ -2,8 +2,8 @@
 use Rattle.std.specs.Prelude.{◌≡◌, ◌↔◌, ℕ, ◌/◌, ◌<◌, ◌≤◌, List, length}
 use Rattle.std.specs.List.{Contains}
 use Rattle.xs_params.specs.declared.header.Header.{Header}
-use Rattle.xs_grammar.specs.Geometry.{bands_of, band_height_of, lines_of, packet_bands, packets_of, precinct_lines, precincts_of, slice_count}
-use Rattle.xs_geometry.specs.Kept.{IsGeometry}
+use Rattle.xs_params.specs.Geometry.{bands_of, band_height_of, lines_of, packet_bands, packets_of, precinct_lines, precincts_of, slice_count}
+use Rattle.xs_params.specs.Accepted.{IsGeometry}
 use Rattle.xs_geometry.specs.Places.{packet_at}
 use Rattle.xs_geometry.specs.SliceLines.{BandLines, HasLine, AreLinesOf}
 

@@ -2,7 +2,7 @@
 use Rattle.std.specs.Prelude.{ℕ, ◌+◌, ◌*◌, ◌≤◌, List, slice_index_or}
 use Rattle.xs_layout.specs.Geometry.{PacketPlace, components_of}
 use Rattle.xs_params.specs.declared.header.Header.{Header}
-use Rattle.xs_grammar.specs.Geometry.{bands_of, packets_of}
+use Rattle.xs_params.specs.Geometry.{bands_of, packets_of}
 use Rattle.xs_geometry.specs.declared.packets.PacketPlace.{PacketPlace as Place}
 
 -- a place as the definitions have it

@@ -1,7 +1,9 @@
 -- The rows of coefficients of a slice: for each band its lines in the slice.
-use Rattle.std.specs.Prelude.{◌≡◌, ℕ, ◌+◌, ◌-◌, ◌*◌, ◌<◌, ◌≤◌, min, ℤ, pos, List, [], length, slice_index_or, replicate}
+use Rattle.std.specs.Prelude.{◌≡◌, ℕ, ◌+◌, ◌-◌, ◌*◌, ◌<◌, ◌≤◌, min, ℤ, pos, List, [], length, map, slice_index_or, replicate}
 use Rattle.xs_params.specs.declared.header.Header.{Header}
-use Rattle.xs_grammar.specs.Geometry.{bands_of, band_width_of, band_height_of, precinct_lines}
+use Rattle.xs_lists.specs.Spelling.{upto}
+use Rattle.xs_params.specs.Rows.{Rows}
+use Rattle.xs_params.specs.Geometry.{bands_of, band_width_of, band_height_of, precinct_lines}
 
 -- the lines of a band in a slice: the number of the first, counted in the whole band, and a row for each
 pub record BandLines : Type 0 where
@@ -46,3 +48,11 @@ pub record AreLinesOf (h : Header) (slice : ℕ) (bands : List BandLines) : Type
 -- and each entry is 0
 pub record AreBlank (bands : List BandLines) : Type 0 where
   pub zero : (band line : ℕ) → HasLine bands band line → row_at bands band line ≡ replicate (length (row_at bands band line)) (pos 0)
+
+-- the rows as coefficients by band, line and column: 0 where there is none
+abbrev pub rows_held : List BandLines → Rows
+rows_held bands band line column = slice_index_or (row_at bands band line) column (pos 0)
+
+-- the rows are those of coefficients, each cut at the band's width
+abbrev pub ShowRows : Header → Rows → List BandLines → Type 0
+ShowRows h rows bands = (band line : ℕ) → HasLine bands band line → row_at bands band line ≡ map (rows band line) (upto (band_width_of h band))

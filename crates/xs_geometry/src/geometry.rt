@@ -2,9 +2,8 @@
 ghost use Rattle.std.specs.Prelude.{◌≡◌, ◌+◌, ◌-◌, ◌*◌, ◌^◌, ◌<◌, ◌≤◌, min, true, length, MatchOption, ℕ};
 ghost use Rattle.std.specs.List.{range_with_len};
 ghost use Rattle.xs_layout.specs.Geometry.{components_of};
-ghost use Rattle.xs_grammar.specs.Geometry.{bands_of, band_component, band_type_of, band_width_of, band_height_of, component_width, has_line, lines_of, packet_bands, packet_places, packets_of, precinct_count, precinct_lines, slice_count};
-ghost use Rattle.xs_grammar.specs.Header.{IsAccepted};
-ghost use Rattle.xs_geometry.specs.Kept.{geometry_of, IsGeometry};
+ghost use Rattle.xs_params.specs.Geometry.{bands_of, band_component, band_type_of, band_width_of, band_height_of, component_width, has_line, lines_of, packet_bands, packet_places, packets_of, precinct_count, precinct_lines, slice_count, geometry_of};
+ghost use Rattle.xs_params.specs.Accepted.{IsAccepted, IsGeometry};
 ghost use Rattle.xs_geometry.specs.Places.{HasBands, packet_at, place_in, place_of};
 ghost use Rattle.xs_geometry.specs.Sides.{type_of};
 ghost use Rattle.xs_geometry.specs.SliceLines.{first_line_of, end_line_of};
@@ -13,7 +12,8 @@ use crate::kinds::{BandKind, kind_of};
 use crate::packets::{PacketPlace, count_places, place_at};
 use crate::sizes::{power, side};
 use std::marker::Model;
-use xs_params::{Format, Header, Shape, component_width};
+use xs_layout::ceil_div;
+use xs_params::{Header, Shape, component_width};
 
 /// The band geometry of a header.
 #[derive(Drop)]
@@ -27,7 +27,8 @@ pub struct Geometry {
 impl Model for Geometry {
     ghost use Rattle.std.specs.Prelude.{◌<◌, ◌^◌};
     ghost use Rattle.xs_params.specs.declared.header.Header.{Header};
-    ghost use Rattle.xs_geometry.specs.Kept.{blank_header, IsGeometry};
+    ghost use Rattle.xs_params.specs.Accepted.{IsGeometry};
+    ghost use Rattle.xs_params.specs.Geometry.{blank_header};
 
     ghost Value = { Header };
 
@@ -55,7 +56,7 @@ impl Geometry {
         ensures few { result ≤ 30 }
         ensures ranges { IsGeometry self.now }
     {
-        u32::from(2 * self.nly + self.nlx + 1) * self.components()
+        u32::from(2 * self.nly + self.nlx + 1) * self.shape.format.components()
     }
 
     /// How many precincts the picture has.
@@ -71,7 +72,7 @@ impl Geometry {
         ensures count { result ≡ slice_count self.now }
         ensures most { result ≤ 8192 }
     {
-        (self.precincts() + self.hsl - 1) / self.hsl
+        ceil_div(self.precincts(), self.hsl)
     }
 
     pub fn kind(&self, band: u32) -> BandKind
@@ -83,7 +84,7 @@ impl Geometry {
         ensures some_across { result.high_across ≡ true → 1 ≤ result.across }
         ensures some_down { result.high_down ≡ true → 1 ≤ result.down }
     {
-        let components = self.components();
+        let components = self.shape.format.components();
         kind_of(
             self.nlx,
             self.nly,
@@ -167,7 +168,7 @@ impl Geometry {
         ensures order { result.0 ≤ result.1 }
         ensures there { result.1 ≤ bands_of self.now }
     {
-        let components = self.components();
+        let components = self.shape.format.components();
         (
             place.first_type * components,
             (place.first_type + place.types) * components,
@@ -233,7 +234,7 @@ impl Geometry {
         requires bands_there { HasBands self.now place }
         ensures { result ≡ has_line self.now (place_of place) }
     {
-        place.line < self.band_height(place.first_type * self.components())
+        place.line < self.band_height(place.first_type * self.shape.format.components())
     }
 
     // How many lines of a band a precinct has that is not cut.
@@ -245,17 +246,6 @@ impl Geometry {
     {
         let kind = self.kind(band);
         power(self.nly - kind.down)
-    }
-
-    fn components(&self) -> u32
-        ensures count { result ≡ components_of self.now.shape.format }
-        ensures one_or_three { (1 ≤ result) × (result ≤ 3) }
-        ensures ranges { IsGeometry self.now }
-    {
-        match self.shape.format {
-            Format::Mono => 1,
-            Format::C422 | Format::C444 => 3,
-        }
     }
 
     fn columns(&self, component: u32) -> u32

@@ -1,9 +1,10 @@
 //! The band geometry of a header, and the rows of coefficients of a slice.
 #![tactic(auto)]
 
-ghost use Rattle.xs_geometry.specs.Laws.{AcceptedRanges, GeometryKept, LinesKept, RowWritten};
+ghost use Rattle.xs_geometry.specs.Laws.{AcceptedRanges, GeometryKept, LinesKept, RowLent, RowWritten};
 ghost use Rattle.xs_geometry.specs.Lines.{LineInOnePacket, PacketsHaveLines, SliceHasLines, SliceHasPackets};
 
+mod blocks;
 mod geometry;
 mod kinds;
 mod packets;
@@ -20,6 +21,11 @@ pub use weighting::truncation;
 /// A row that was written changes its own line alone.
 pub fn row_written()
     ensures { RowWritten }
+{}
+
+/// A row of the old one's length that is left behind a reference stands in its place.
+pub fn row_lent()
+    ensures { RowLent }
 {}
 
 /// The lines of a slice stay so when a row is written.
@@ -56,6 +62,3 @@ pub fn slice_has_lines()
 pub fn slice_has_packets()
     ensures { SliceHasPackets }
 {}
-
-#[cfg(test)]
-mod tests;

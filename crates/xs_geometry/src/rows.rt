@@ -1,94 +1,36 @@
 //! The coefficients of a slice.
-ghost use Rattle.std.specs.Prelude.{◌≡◌, ◌+◌, ◌-◌, ◌<◌, ◌≤◌, ◌++◌, ◌∷◌, [], length, IfOk, slice_index_or, replicate, pos, ℕ};
+ghost use Rattle.std.specs.Prelude.{◌≡◌, ◌+◌, ◌-◌, ◌<◌, ◌≤◌, length, take, drop, replicate, pos, IfOk, IsErr, ℕ};
 ghost use Rattle.std.specs.Borrow.{sem};
 ghost use Rattle.xs_params.specs.declared.header.Header.{Header};
-ghost use Rattle.xs_grammar.specs.Geometry.{slice_count};
+ghost use Rattle.xs_params.specs.Geometry.{slice_count};
 ghost use Rattle.xs_geometry.specs.SliceLines.{AreBlank, AreLinesOf, HasLine, lines_at, row_at};
-ghost use Rattle.xs_geometry.specs.Written.{with_line, with_row};
-ghost use Rattle.xs_geometry.specs.Lent.{LendsLine, LendsRow};
+ghost use Rattle.xs_geometry.specs.Written.{band_numbers, numbers_before, with_row};
+ghost use Rattle.xs_geometry.specs.Lent.{LendsRow};
 
+use crate::blocks::BlockTable;
 use crate::geometry::Geometry;
 use std::alloc::Global;
 use std::marker::Model;
 use xs_io::Memory;
 
-/// The lines of one band in a slice.
-#[derive(Drop)]
-pub struct BandRows {
-    first: u32,
-    rows: Vec<Vec<i32>>,
-}
-
-impl Model for BandRows {
-    ghost use Rattle.std.specs.Prelude.{◌+◌, ◌≤◌, length, map};
-    ghost use Rattle.xs_geometry.specs.SliceLines.{BandLines};
-
-    ghost Value = { BandLines };
-
-    ghost view = { λ b. record { first = b.first; rows = map (λ row. row.items) b.rows.items } };
-
-    ghost invariant = { λ b. b.first + length b.rows.items ≤ 8192 };
-}
-
-impl BandRows {
-    fn blank(alloc: Global, first: u32, count: u32, width: u32) -> Result<BandRows, Memory>
-        requires { first + count ≤ 8192 }
-        ensures first { IfOk result (λ band. band.first ≡ first) }
-        ensures rows { IfOk result (λ band. band.rows ≡ replicate count (replicate width (pos 0))) }
-    {
-        let mut rows = Vec::new(alloc);
-        for _ in 0..count {
-            rows.push(blank_row(alloc, width)?).map_err(|_| Memory)?;
-        }
-        Ok(BandRows { first, rows })
-    }
-
-    fn lines(&self) -> (u32, u32)
-        ensures first { result.0 ≡ self.now.first }
-        ensures end { result.1 ≡ self.now.first + length self.now.rows }
-        ensures most { result.1 ≤ 8192 }
-    {
-        (self.first, self.first + self.rows.len() as u32)
-    }
-
-    fn row(&self, line: u32) -> &[i32]
-        requires from { self.now.first ≤ line }
-        requires there { line < self.now.first + length self.now.rows }
-        ensures { result.now ≡ slice_index_or self.now.rows (line - self.now.first) [] }
-    {
-        self.rows[(line - self.first) as usize].as_slice()
-    }
-
-    fn row_mut(&mut self, line: u32) -> &mut [i32]
-        requires from { self.old.first ≤ line }
-        requires there { line < self.old.first + length self.old.rows }
-        ensures* after { sem 𝓛 (LendsLine self.entry line result) }
-        ensures value { result.now ≡ slice_index_or self.old.rows (line - self.old.first) [] }
-    {
-        let at = (line - self.first) as usize;
-        self.rows[at].as_mut_slice()
-    }
-}
-
-fn blank_row(alloc: Global, width: u32) -> Result<Vec<i32>, Memory>
-    ensures { IfOk result (λ row. row.items ≡ replicate width (pos 0)) }
-{
-    Vec::from_elem(alloc, 0, width as usize).map_err(|_| Memory)
-}
-
 /// For each band its lines in a slice, each a row of coefficients. A line is counted in the whole band.
+/// The rows of all bands stand in one block of memory.
 #[derive(Drop)]
 pub struct SliceRows {
-    bands: Vec<BandRows>,
+    table: BlockTable,
+    numbers: Vec<i32>,
 }
 
 impl Model for SliceRows {
-    ghost use Rattle.std.specs.Prelude.{List};
+    ghost use Rattle.std.specs.Prelude.{◌≤◌, List, length};
     ghost use Rattle.xs_geometry.specs.SliceLines.{BandLines};
+    ghost use Rattle.xs_geometry.specs.Blocks.{bands_cut, blocks_of, StandFrom};
 
     ghost Value = { List BandLines };
 
-    ghost view = { λ s. s.bands.items };
+    ghost view = { λ s. bands_cut (blocks_of s.table) s.numbers.items };
+
+    ghost invariant = { λ s. StandFrom 0 (blocks_of s.table) (length s.numbers.items) × (s.table.count ≤ 30) };
 }
 
 impl SliceRows {
@@ -99,14 +41,24 @@ impl SliceRows {
         ensures zeros { IfOk result (λ rows. AreBlank rows) }
     {
         let mut rows = SliceRows {
-            bands: Vec::new(alloc),
+            table: BlockTable::empty(),
+            numbers: Vec::new(alloc),
         };
-        for band in 0..geometry.bands() {
-            let (first, end) = geometry.slice_lines(slice, band);
-            let lines = BandRows::blank(alloc, first, end - first, geometry.band_width(band))?;
-            rows.push(lines)?;
-        }
+        rows.reset(geometry, slice)?;
         Ok(rows)
+    }
+
+    /// Rows of zeros in place of those that are there, in their memory where it is enough.
+    pub fn reset(&mut self, geometry: &Geometry, slice: u32) -> Result<(), Memory>
+        requires { slice < slice_count geometry.now }
+        ensures lines { IfOk result (λ _. AreLinesOf geometry.now slice self.new) }
+        ensures zeros { IfOk result (λ _. AreBlank self.new) }
+        ensures refused { IsErr result → self.new ≡ self.old }
+    {
+        let table = BlockTable::of(geometry, slice);
+        set_zeros(&mut self.numbers, table.numbers)?;
+        self.table = table;
+        Ok(())
     }
 
     /// The first line of a band, and one past the last.
@@ -116,22 +68,26 @@ impl SliceRows {
         ensures end { result.1 ≡ (lines_at self.now band).first + length (lines_at self.now band).rows }
         ensures most { result.1 ≤ 8192 }
     {
-        self.bands[band as usize].lines()
+        let block = self.table.bands[band as usize];
+        (block.first, block.first + block.lines)
     }
 
     pub fn row(&self, band: u32, line: u32) -> &[i32]
         requires { HasLine self.now band line }
         ensures { result.now ≡ row_at self.now band line }
     {
-        self.bands[band as usize].row(line)
+        let (start, end) = self.place(band, line);
+        &self.numbers[start..end]
     }
 
+    /// What is left behind the reference is written over the row.
     pub fn row_mut(&mut self, band: u32, line: u32) -> &mut [i32]
         requires { HasLine self.old band line }
         ensures* after { sem 𝓛 (LendsRow self.entry band line result) }
         ensures value { result.now ≡ row_at self.old band line }
     {
-        self.bands[band as usize].row_mut(line)
+        let (start, end) = self.place(band, line);
+        self.numbers.slice_mut(start..end)
     }
 
     /// Writes the row of a line.
@@ -144,9 +100,26 @@ impl SliceRows {
         self.row_mut(band, line).copy_from_slice(values);
     }
 
-    fn push(&mut self, lines: BandRows) -> Result<(), Memory>
-        ensures { IfOk result (λ _. self.new ≡ self.old ++ lines ∷ []) }
+    // The place of a row's first number among those of all rows, and one past the last.
+    fn place(&self, band: u32, line: u32) -> (usize, usize)
+        requires { HasLine self.now band line }
+        ensures start { result.0 ≡ numbers_before self.now band line }
+        ensures end { result.1 ≡ result.0 + length (row_at self.now band line) }
+        ensures inside { result.1 ≤ length (band_numbers self.now) }
+        ensures row { take (result.1 - result.0) (drop result.0 (band_numbers self.now)) ≡ row_at self.now band line }
     {
-        self.bands.push(lines).map_err(|_| Memory)
+        self.table.bands[band as usize].row(line)
     }
+}
+
+// So many zeros in place of what is there.
+fn set_zeros(numbers: &mut Vec<i32>, count: usize) -> Result<(), Memory>
+    ensures zeros { IfOk result (λ _. numbers.new.items ≡ replicate count (pos 0)) }
+    ensures refused { IsErr result → numbers.new.items ≡ numbers.old.items }
+{
+    let more = count.saturating_sub(numbers.len());
+    numbers.reserve_exact(more).map_err(|_| Memory)?;
+    numbers.clear();
+    numbers.resize(count, 0).unwrap();
+    Ok(())
 }

@@ -2,6 +2,8 @@
 ghost use Rattle.std.specs.Prelude.{◌≡◌, ◌^◌, ◌≤◌, true};
 ghost use Rattle.xs_layout.specs.Geometry.{low_size, side_size};
 
+use xs_layout::ceil_div;
+
 /// What the last of some levels leaves of so many samples on this side.
 pub fn side(samples: u32, level: u8, high: bool) -> u32
     requires samples { samples ≤ 8192 }
@@ -23,8 +25,7 @@ fn low(samples: u32, level: u8) -> u32
     ensures value { result ≡ low_size samples level }
     ensures most { result ≤ 8192 }
 {
-    let step = power(level);
-    (samples + step - 1) / step
+    ceil_div(samples, power(level))
 }
 
 /// A power of two.

@@ -1,6 +1,6 @@
 use Rattle.std.proofs.Common.{◌≡◌, ◌<◌, length, take, sym, ap, ◌∙◌, arith}
 use Rattle.std.specs.List.{filter}
-use Rattle.xs_grammar.specs.Geometry.{has_line, packet_places, packets_of}
+use Rattle.xs_params.specs.Geometry.{has_line, packet_places, packets_of}
 use Rattle.xs_geometry.specs.Places.{place_in, place_of}
 use Rattle.xs_geometry.proofs.Filtered.{one_more, none_more, found}
 use Rattle.xs_geometry.proofs.geometry.Geometry.nth_packet.Goals as goal

@@ -1,5 +1,5 @@
 use Rattle.std.proofs.Common.{◌<◌, length, sym, ◌∙◌, arith}
-use Rattle.xs_grammar.specs.Geometry.{has_line, packet_places}
+use Rattle.xs_params.specs.Geometry.{has_line, packet_places}
 use Rattle.xs_geometry.specs.Places.{place_of}
 use Rattle.xs_geometry.proofs.Filtered.{one_more, none_more}
 use Rattle.xs_geometry.proofs.geometry.Geometry.packets.Goals as goal

@@ -1,7 +1,6 @@
 use Rattle.std.proofs.Common.{◌<◌, arith, sym, subst}
 use Rattle.xs_params.specs.declared.header.Header.{Header}
-use Rattle.xs_grammar.specs.Geometry.{slice_count}
-use Rattle.xs_geometry.specs.Kept.{blank_header}
+use Rattle.xs_params.specs.Geometry.{slice_count, blank_header}
 use Rattle.xs_geometry.proofs.Counts.{precincts_most, slice_begins}
 use Rattle.xs_geometry.proofs.geometry.Geometry.slice_lines.Goals as goal
 
