@@ -21,13 +21,13 @@ use Rattle.xs_signal.specs.Lines.{entries_of, IsBelow}
 use Rattle.xs_lists.specs.Bits.{bit_of}
 use Rattle.xs_lists.specs.Spelling.{upto, downto}
 use Rattle.xs_spelling.specs.Counts.{unary}
-use Rattle.xs_lines.specs.Plain.{group_size, group_data, numbers_of, plane_of}
-use Rattle.xs_lines.specs.Rows.{planes_at, count_bits, data_bits, row_counts, digits_of, IsLine}
+use Rattle.xs_lines.specs.Plain.{line_group_size, data_in_group, numbers_in_group, bit_plane_of}
+use Rattle.xs_lines.specs.Rows.{planes_at, row_count_bits, data_bits, counts_in_row, digits_in_row, IsLine}
 
 length-unary : (n : ℕ) → length (unary n) ≡ n + 1
 length-unary n = omega (arith, length-append {A = ℕ} (replicate n 1) (0 ∷ []), length-replicate {A = ℕ} n 1)
 
-pub digits_most : (m : ℕ) → digits_of m ≤ 15
+pub digits_most : (m : ℕ) → digits_in_row m ≤ 15
 digits_most m = count_by-le-length (λ k. nat_le (2 ^ k) m) (upto 15)
 
 same_sum : (f g : ℕ → ℕ) (xs : List ℕ) → ((x : ℕ) → f x ≡ g x) → sum_by f xs ≡ sum_by g xs
@@ -46,52 +46,52 @@ length-upto n = sym (length-map (upto n) (λ k. k)) ∙ length-map-range_with_le
 
 -- Counts
 
-pub length-count_bits : (row : List ℤ) → length (count_bits row) ≡ sum_by (λ count. count + 1) (row_counts row)
-length-count_bits row = length-flat_map unary (row_counts row) ∙ same_sum (λ count. length (unary count)) (λ count. count + 1) (row_counts row) length-unary
+pub length-count_bits : (row : List ℤ) → length (row_count_bits row) ≡ sum_by (λ count. count + 1) (counts_in_row row)
+length-count_bits row = length-flat_map unary (counts_in_row row) ∙ same_sum (λ count. length (unary count)) (λ count. count + 1) (counts_in_row row) length-unary
 
-pub length-row_counts : (row : List ℤ) → length (row_counts row) ≡ length row / 4
+pub length-row_counts : (row : List ℤ) → length (counts_in_row row) ≡ length row / 4
 length-row_counts row = length-map-range_with_len (planes_at row) 0 (length row / 4)
 
-pub count_most : (row : List ℤ) → length (count_bits row) ≤ 16 * (length row / 4)
+pub count_most : (row : List ℤ) → length (row_count_bits row) ≤ 16 * (length row / 4)
 count_most row =
     let n = length row / 4 in
-    let each : (g : ℕ) → planes_at row g + 1 ≤ 16 = λ g. (let d = digits_most (fold max 0 (map unsigned_abs (numbers_of row g))) in omega (arith, d)) in
+    let each : (g : ℕ) → planes_at row g + 1 ≤ 16 = λ g. (let d = digits_most (fold max 0 (map unsigned_abs (numbers_in_group row g))) in omega (arith, d)) in
     let sums = sum_below (λ g. planes_at row g + 1) 16 (upto n) each in
     omega (arith, length-count_bits row, sum_of_map (λ count. count + 1) (planes_at row) (upto n), sums, length-upto n)
 
 -- Data
 
-all_four : (numbers : List ℤ) (planes : List ℕ) → length numbers ≡ 4 → length (flat_map (plane_of numbers) planes) ≡ 4 * length planes
+all_four : (numbers : List ℤ) (planes : List ℕ) → length numbers ≡ 4 → length (flat_map (bit_plane_of numbers) planes) ≡ 4 * length planes
 all_four numbers [] four = refl
 all_four numbers (plane ∷ planes) four =
-    omega (arith, length-append (plane_of numbers plane) (flat_map (plane_of numbers) planes), length-map numbers (λ z. unsigned_abs z / 2 ^ plane % 2), four, all_four numbers planes four)
+    omega (arith, length-append (bit_plane_of numbers plane) (flat_map (bit_plane_of numbers) planes), length-map numbers (λ z. unsigned_abs z / 2 ^ plane % 2), four, all_four numbers planes four)
 
-whole_group : (numbers : List ℤ) (count : ℕ) → length numbers ≡ 4 → length (map (λ z. bit_of (is_negative z)) numbers ++ flat_map (plane_of numbers) (downto count 0)) ≡ 4 * (count + 1)
+whole_group : (numbers : List ℤ) (count : ℕ) → length numbers ≡ 4 → length (map (λ z. bit_of (is_negative z)) numbers ++ flat_map (bit_plane_of numbers) (downto count 0)) ≡ 4 * (count + 1)
 whole_group numbers count four =
     omega (
       arith,
-      length-append (map (λ z. bit_of (is_negative z)) numbers) (flat_map (plane_of numbers) (downto count 0)),
+      length-append (map (λ z. bit_of (is_negative z)) numbers) (flat_map (bit_plane_of numbers) (downto count 0)),
       length-map numbers (λ z. bit_of (is_negative z)),
       four,
       all_four numbers (downto count 0) four,
       length-map-range_with_len (λ i. count - (i + 1)) 0 (count - 0),
     )
 
-pub length-group_data : (numbers : List ℤ) (count : ℕ) → length numbers ≡ 4 → length (group_data numbers count) ≡ group_size count
+pub length-group_data : (numbers : List ℤ) (count : ℕ) → length numbers ≡ 4 → length (data_in_group numbers count) ≡ line_group_size count
 length-group_data numbers count four = cases (nat_lt 0 count)
   where
-    cases : (some : Bool) → length (if some then map (λ z. bit_of (is_negative z)) numbers ++ flat_map (plane_of numbers) (downto count 0) else []) ≡ (if some then 4 * (count + 1) else 0)
+    cases : (some : Bool) → length (if some then map (λ z. bit_of (is_negative z)) numbers ++ flat_map (bit_plane_of numbers) (downto count 0) else []) ≡ (if some then 4 * (count + 1) else 0)
     cases true = whole_group numbers count four
     cases false = refl
 
-pub length-data_bits : (row : List ℤ) → length (data_bits row) ≡ sum_by group_size (row_counts row)
+pub length-data_bits : (row : List ℤ) → length (data_bits row) ≡ sum_by line_group_size (counts_in_row row)
 length-data_bits row =
     let n = length row / 4 in
-    length-flat_map (λ g. group_data (numbers_of row g) (planes_at row g)) (upto n)
-    ∙ same_sum (λ g. length (group_data (numbers_of row g) (planes_at row g))) (λ g. group_size (planes_at row g)) (upto n) (λ g. length-group_data (numbers_of row g) (planes_at row g) refl)
-    ∙ sym (sum_of_map group_size (planes_at row) (upto n))
+    length-flat_map (λ g. data_in_group (numbers_in_group row g) (planes_at row g)) (upto n)
+    ∙ same_sum (λ g. length (data_in_group (numbers_in_group row g) (planes_at row g))) (λ g. line_group_size (planes_at row g)) (upto n) (λ g. length-group_data (numbers_in_group row g) (planes_at row g) refl)
+    ∙ sym (sum_of_map line_group_size (planes_at row) (upto n))
 
-size_most : (count : ℕ) → count ≤ 15 → group_size count ≤ 64
+size_most : (count : ℕ) → count ≤ 15 → line_group_size count ≤ 64
 size_most count most = cases (nat_lt 0 count)
   where
     cases : (some : Bool) → (if some then 4 * (count + 1) else 0) ≤ 64
@@ -101,9 +101,9 @@ size_most count most = cases (nat_lt 0 count)
 pub data_most : (row : List ℤ) → length (data_bits row) ≤ 64 * (length row / 4)
 data_most row =
     let n = length row / 4 in
-    let each : (g : ℕ) → group_size (planes_at row g) ≤ 64 = λ g. size_most (planes_at row g) (digits_most (fold max 0 (map unsigned_abs (numbers_of row g)))) in
-    let sums = sum_below (λ g. group_size (planes_at row g)) 64 (upto n) each in
-    omega (arith, length-data_bits row, sum_of_map group_size (planes_at row) (upto n), sums, length-upto n)
+    let each : (g : ℕ) → line_group_size (planes_at row g) ≤ 64 = λ g. size_most (planes_at row g) (digits_most (fold max 0 (map unsigned_abs (numbers_in_group row g)))) in
+    let sums = sum_below (λ g. line_group_size (planes_at row g)) 64 (upto n) each in
+    omega (arith, length-data_bits row, sum_of_map line_group_size (planes_at row) (upto n), sums, length-upto n)
 
 -- one more count
 pub counts_more : (counts : List ℕ) (f : ℕ → ℕ) (i x : ℕ) → i < length counts → take i counts ≡ map f (upto i) → x ≡ f i → take (i + 1) (set counts i x) ≡ map f (upto (i + 1))
@@ -125,14 +125,14 @@ passed_same z small = grind (arith, ints, small)
 
 -- what a row gives, by a list of its counts
 
-pub few : (row : List ℤ) → IsLine row → length (row_counts row) ≤ 2048
+pub few : (row : List ℤ) → IsLine row → length (counts_in_row row) ≤ 2048
 few row line = omega (arith, length-row_counts row, line.most)
 
-pub counts_small : (row : List ℤ) (k d : ℕ) → k < length (row_counts row) → get_or (row_counts row) k d ≤ 15
+pub counts_small : (row : List ℤ) (k d : ℕ) → k < length (counts_in_row row) → get_or (counts_in_row row) k d ≤ 15
 counts_small row k d inside =
     let none : 0 + k ≡ k = omega arith in
     let at = get_or-map-range_with_len (planes_at row) 0 (length row / 4) k k d (omega (arith, inside, length-row_counts row)) none in
-    let most = digits_most (fold max 0 (map unsigned_abs (numbers_of row k))) in
+    let most = digits_most (fold max 0 (map unsigned_abs (numbers_in_group row k))) in
     subst (λ n. n ≤ 15) (sym at) most
 
 same_pieces : (f g : ℕ → List ℕ) (first n : ℕ) → ((i : ℕ) → first ≤ i → i < first + n → f i ≡ g i) → flat_map f (range_with_len first n) ≡ flat_map g (range_with_len first n)
@@ -141,12 +141,12 @@ same_pieces f g first (suc n) same =
     ap (λ l. l ++ flat_map f (range_with_len (first + 1) n)) (same first (omega arith) (omega arith))
     ∙ ap (λ l. g first ++ l) (same_pieces f g (first + 1) n (λ i low high. same i (omega (arith, low)) (omega (arith, high))))
 
-pub data_form : (row : List ℤ) (counts : List ℕ) → counts ≡ row_counts row → flat_map (λ g. group_data (numbers_of row g) (get_or counts g 0)) (upto (length counts)) ≡ data_bits row
+pub data_form : (row : List ℤ) (counts : List ℕ) → counts ≡ counts_in_row row → flat_map (λ g. data_in_group (numbers_in_group row g) (get_or counts g 0)) (upto (length counts)) ≡ data_bits row
 data_form row counts same =
-    ap (λ c. flat_map (λ g. group_data (numbers_of row g) (get_or c g 0)) (upto (length c))) same
-    ∙ ap (λ n. flat_map (λ g. group_data (numbers_of row g) (get_or (row_counts row) g 0)) (upto n)) (length-row_counts row)
-    ∙ same_pieces (λ g. group_data (numbers_of row g) (get_or (row_counts row) g 0)) (λ g. group_data (numbers_of row g) (planes_at row g)) 0 (length row / 4)
-    (λ i low high. let none : 0 + i ≡ i = omega arith in ap (group_data (numbers_of row i)) (get_or-map-range_with_len (planes_at row) 0 (length row / 4) i i 0 (omega (arith, high)) none))
+    ap (λ c. flat_map (λ g. data_in_group (numbers_in_group row g) (get_or c g 0)) (upto (length c))) same
+    ∙ ap (λ n. flat_map (λ g. data_in_group (numbers_in_group row g) (get_or (counts_in_row row) g 0)) (upto n)) (length-row_counts row)
+    ∙ same_pieces (λ g. data_in_group (numbers_in_group row g) (get_or (counts_in_row row) g 0)) (λ g. data_in_group (numbers_in_group row g) (planes_at row g)) 0 (length row / 4)
+    (λ i low high. let none : 0 + i ≡ i = omega arith in ap (data_in_group (numbers_in_group row i)) (get_or-map-range_with_len (planes_at row) 0 (length row / 4) i i 0 (omega (arith, high)) none))
 
 -- Magnitudes
 
@@ -196,7 +196,7 @@ powers m (suc n) k over under within = elim (cases_lt n k) [
         let double : 2 ^ suc j ≡ 2 ^ j * 2 = pow-suc 2 j in
         omega (arith, up, double, under)
 
-pub digits_are : (m k : ℕ) → m < 2 ^ 15 → m < 2 ^ k → 2 ^ k ≤ 2 * m + 1 → k ≡ digits_of m
+pub digits_are : (m k : ℕ) → m < 2 ^ 15 → m < 2 ^ k → 2 ^ k ≤ 2 * m + 1 → k ≡ digits_in_row m
 digits_are m k small over under = elim (cases_lt 15 k) [
   | inr below ↦ sym (powers m 15 k over under below)
   | inl above ↦

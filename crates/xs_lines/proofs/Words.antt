@@ -9,7 +9,7 @@ use Rattle.xs_lists.specs.Spelling.{upto, downto}
 use Rattle.xs_lists.proofs.Bits.{bits_split, bits_mod}
 use Rattle.std.specs.Prelude.{ℤ, unsigned_abs, map}
 use Rattle.std.proofs.lemmas.List.FromFn.{map-range_with_len_more}
-use Rattle.xs_lines.specs.Plain.{plane_of}
+use Rattle.xs_lines.specs.Plain.{bit_plane_of}
 use Rattle.xs_lists.proofs.Each.{range-more}
 
 four : (a b c d e f g h : ℕ) → a ≡ e → b ≡ f → c ≡ g → d ≡ h → a ∷ b ∷ c ∷ d ∷ [] ≡ e ∷ f ∷ g ∷ h ∷ []
@@ -61,19 +61,19 @@ downto_more top bottom some below =
     ∙ ap (λ k. downto top bottom ++ (k ∷ [])) last
 
 -- a plane is that of the magnitudes
-pub plane_of_magnitudes : (numbers : List ℤ) (plane : ℕ) → map (λ magnitude. magnitude / 2 ^ plane % 2) (map unsigned_abs numbers) ≡ plane_of numbers plane
+pub plane_of_magnitudes : (numbers : List ℤ) (plane : ℕ) → map (λ magnitude. magnitude / 2 ^ plane % 2) (map unsigned_abs numbers) ≡ bit_plane_of numbers plane
 plane_of_magnitudes [] plane = refl
 plane_of_magnitudes (z ∷ numbers) plane = ap (λ l. (unsigned_abs z / 2 ^ plane % 2) ∷ l) (plane_of_magnitudes numbers plane)
 
 pub planes_more : (before now next nibble : List ℕ) (numbers : List ℤ) (magnitudes : List ℕ) (count plane : ℕ) → 0 < plane → plane ≤ count
-    → next ≡ now ++ nibble → now ≡ before ++ flat_map (plane_of numbers) (downto count plane)
+    → next ≡ now ++ nibble → now ≡ before ++ flat_map (bit_plane_of numbers) (downto count plane)
     → nibble ≡ map (λ magnitude. magnitude / 2 ^ (plane - 1) % 2) magnitudes → magnitudes ≡ map unsigned_abs numbers
-    → next ≡ before ++ flat_map (plane_of numbers) (downto count (plane - 1))
+    → next ≡ before ++ flat_map (bit_plane_of numbers) (downto count (plane - 1))
 planes_more before now next nibble numbers magnitudes count plane some below step so_far bits sizes =
-    let one : nibble ≡ plane_of numbers (plane - 1) = bits ∙ ap (map (λ magnitude. magnitude / 2 ^ (plane - 1) % 2)) sizes ∙ plane_of_magnitudes numbers (plane - 1) in
-    let planes = flat_map (plane_of numbers) (downto count plane) in
-    let more : flat_map (plane_of numbers) (downto count (plane - 1)) ≡ planes ++ plane_of numbers (plane - 1) =
-    ap (flat_map (plane_of numbers)) (downto_more count plane some below)
-    ∙ flat_map-append (plane_of numbers) (downto count plane) ((plane - 1) ∷ [])
-    ∙ ap (λ l. planes ++ l) (append-nil (plane_of numbers (plane - 1))) in
-    step ∙ ap (λ l. now ++ l) one ∙ ap (λ l. l ++ plane_of numbers (plane - 1)) so_far ∙ append_assoc before planes (plane_of numbers (plane - 1)) ∙ ap (λ l. before ++ l) (sym more)
+    let one : nibble ≡ bit_plane_of numbers (plane - 1) = bits ∙ ap (map (λ magnitude. magnitude / 2 ^ (plane - 1) % 2)) sizes ∙ plane_of_magnitudes numbers (plane - 1) in
+    let planes = flat_map (bit_plane_of numbers) (downto count plane) in
+    let more : flat_map (bit_plane_of numbers) (downto count (plane - 1)) ≡ planes ++ bit_plane_of numbers (plane - 1) =
+    ap (flat_map (bit_plane_of numbers)) (downto_more count plane some below)
+    ∙ flat_map-append (bit_plane_of numbers) (downto count plane) ((plane - 1) ∷ [])
+    ∙ ap (λ l. planes ++ l) (append-nil (bit_plane_of numbers (plane - 1))) in
+    step ∙ ap (λ l. now ++ l) one ∙ ap (λ l. l ++ bit_plane_of numbers (plane - 1)) so_far ∙ append_assoc before planes (bit_plane_of numbers (plane - 1)) ∙ ap (λ l. before ++ l) (sym more)

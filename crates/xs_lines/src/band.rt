@@ -2,7 +2,7 @@
 ghost use Rattle.std.specs.Prelude.{◌≡◌, ℕ, ℤ, ◌+◌, ◌*◌, ◌/◌, ◌<◌, ◌≤◌, ◌^◌, ◌++◌, length, pos, IfOk, unsigned_abs};
 ghost use Rattle.xs_signal.specs.Lines.{AllBelow, entries_of};
 ghost use Rattle.xs_signal.specs.Fold.{IsFraction, fold as fold_of};
-ghost use Rattle.xs_lines.specs.Rows.{count_bits, data_bits};
+ghost use Rattle.xs_lines.specs.Rows.{row_count_bits, data_bits};
 
 use crate::counting::{bits_of_counts, bits_of_data, count_row, fold_row};
 use crate::line::{write_counts, write_data};
@@ -21,13 +21,13 @@ pub struct BandRow {
 
 impl Model for BandRow {
     ghost use Rattle.std.specs.Prelude.{◌≡◌, List, ℤ};
-    ghost use Rattle.xs_lines.specs.Rows.{row_counts, IsLine};
+    ghost use Rattle.xs_lines.specs.Rows.{counts_in_row, IsLine};
 
     ghost Value = { List ℤ };
 
     ghost view = { λ b. b.row.items };
 
-    ghost invariant = { λ b. (b.counts.items ≡ row_counts b.row.items) × IsLine b.row.items };
+    ghost invariant = { λ b. (b.counts.items ≡ counts_in_row b.row.items) × IsLine b.row.items };
 }
 
 impl BandRow {
@@ -64,7 +64,7 @@ impl BandRow {
 
     /// How many bits the counts of the row have.
     pub fn count_size(&self) -> u32
-        ensures size { result ≡ length (count_bits self.now) }
+        ensures size { result ≡ length (row_count_bits self.now) }
         ensures most { result ≤ 4 * length self.now }
         ensures few { result ≤ 2 ^ 15 }
     {
@@ -82,9 +82,9 @@ impl BandRow {
 
     /// Writes the counts of the row.
     pub fn write_counts(&self, out: &mut BitWriter)
-        requires room { length (count_bits self.now) ≤ out.old.spare }
-        ensures bits { out.new.bits ≡ out.old.bits ++ count_bits self.now }
-        ensures spare { out.old.spare ≤ out.new.spare + length (count_bits self.now) }
+        requires room { length (row_count_bits self.now) ≤ out.old.spare }
+        ensures bits { out.new.bits ≡ out.old.bits ++ row_count_bits self.now }
+        ensures spare { out.old.spare ≤ out.new.spare + length (row_count_bits self.now) }
     {
         write_counts(out, self.counts.as_slice());
     }

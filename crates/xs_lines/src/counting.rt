@@ -3,8 +3,8 @@ ghost use Rattle.std.specs.Prelude.{◌≡◌, ℕ, ℤ, ◌+◌, ◌*◌, ◌/�
 ghost use Rattle.std.specs.List.{fold};
 ghost use Rattle.xs_signal.specs.Lines.{AllBelow, IsBelow, entries_of};
 ghost use Rattle.xs_signal.specs.Fold.{IsFraction, fold as fold_of};
-ghost use Rattle.xs_lines.specs.Plain.{group_size};
-ghost use Rattle.xs_lines.specs.Rows.{digits_of, planes_at, row_counts};
+ghost use Rattle.xs_lines.specs.Plain.{line_group_size};
+ghost use Rattle.xs_lines.specs.Rows.{digits_in_row, planes_at, counts_in_row};
 
 use crate::group::magnitudes_of;
 use crate::line::numbers_at;
@@ -41,7 +41,7 @@ fn folded(value: i64, fq: u8) -> i32
 pub fn count_row(row: &[i32], counts: &mut [u8])
     requires width { length row.now ≡ 4 * length counts.old }
     requires small { (k : ℕ) → unsigned_abs (entries_of row.now k) < 2 ^ 15 }
-    ensures counts { counts.new ≡ row_counts row.now }
+    ensures counts { counts.new ≡ counts_in_row row.now }
 {
     for group in 0..counts.len() {
         counts[group] = planes_of(numbers_at(row, group));
@@ -51,7 +51,7 @@ pub fn count_row(row: &[i32], counts: &mut [u8])
 // The bit planes of four numbers.
 fn planes_of(numbers: [i32; 4]) -> u8
     requires { All (λ number. unsigned_abs number < 2 ^ 15) numbers }
-    ensures { result ≡ digits_of (fold max 0 (map unsigned_abs numbers)) }
+    ensures { result ≡ digits_in_row (fold max 0 (map unsigned_abs numbers)) }
 {
     digits(greatest(magnitudes_of(numbers)))
 }
@@ -67,7 +67,7 @@ fn greatest(magnitudes: [u32; 4]) -> u32
 // The binary digits of a magnitude of at most 15 bits.
 fn digits(magnitude: u32) -> u8
     requires { magnitude < 2 ^ 15 }
-    ensures { result ≡ digits_of magnitude }
+    ensures { result ≡ digits_in_row magnitude }
 {
     (32 - magnitude.leading_zeros()) as u8
 }
@@ -87,7 +87,7 @@ pub fn bits_of_counts(counts: &[u8]) -> u32
 /// How many bits the numbers of code groups of these counts have.
 pub fn bits_of_data(counts: &[u8]) -> u32
     requires { length counts.now ≤ 2048 }
-    ensures { result ≡ sum_by group_size counts.now }
+    ensures { result ≡ sum_by line_group_size counts.now }
 {
     let mut bits = 0;
     for count in counts {
@@ -98,7 +98,7 @@ pub fn bits_of_data(counts: &[u8]) -> u32
 
 // How many bits the numbers of a code group have.
 fn bits_of_group(count: u8) -> u32
-    ensures size { result ≡ group_size count }
+    ensures size { result ≡ line_group_size count }
     ensures most { result ≤ 1024 }
 {
     if count > 0 {

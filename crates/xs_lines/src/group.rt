@@ -4,7 +4,7 @@ ghost use Rattle.std.specs.Int.{is_negative};
 ghost use Rattle.std.specs.List.{flat_map};
 ghost use Rattle.xs_lists.specs.Bits.{bits_of, bit_of};
 ghost use Rattle.xs_lists.specs.Spelling.{downto};
-ghost use Rattle.xs_lines.specs.Plain.{plane_of, group_data, group_size};
+ghost use Rattle.xs_lines.specs.Plain.{bit_plane_of, data_in_group, line_group_size};
 
 use xs_bits::BitWriter;
 
@@ -85,7 +85,7 @@ pub fn magnitudes_of(numbers: [i32; 4]) -> [u32; 4]
 // The signs and planes of four numbers as one number of `4 * (count + 1)` bits.
 fn group_number(numbers: [i32; 4], count: u8) -> u64
     requires { count ≤ 15 }
-    ensures bits { bits_of (4 * (count + 1)) result ≡ map (λ z. bit_of (is_negative z)) numbers ++ flat_map (plane_of numbers) (downto count 0) }
+    ensures bits { bits_of (4 * (count + 1)) result ≡ map (λ z. bit_of (is_negative z)) numbers ++ flat_map (bit_plane_of numbers) (downto count 0) }
     ensures small { result < 2 ^ (4 * (count + 1)) }
 {
     let magnitudes = magnitudes_of(numbers);
@@ -119,9 +119,9 @@ fn put_number(out: &mut BitWriter, number: u64, width: u32)
 /// Writes the signs and planes of a code group.
 pub fn write_group(out: &mut BitWriter, numbers: [i32; 4], count: u8)
     requires count { count ≤ 15 }
-    requires room { group_size count ≤ out.old.spare }
-    ensures bits { out.new.bits ≡ out.old.bits ++ group_data numbers count }
-    ensures spare { out.old.spare ≤ out.new.spare + group_size count }
+    requires room { line_group_size count ≤ out.old.spare }
+    ensures bits { out.new.bits ≡ out.old.bits ++ data_in_group numbers count }
+    ensures spare { out.old.spare ≤ out.new.spare + line_group_size count }
 {
     if count > 0 {
         put_number(

@@ -10,10 +10,11 @@ use Rattle.xs_params.specs.declared.header.Header.{Header}
 use Rattle.xs_params.specs.Picture.{Picture, sample_at}
 use Rattle.xs_signal.specs.Lines.{IsBelow}
 use Rattle.xs_signal.specs.Picture.{analysed, coloured, scaled}
-use Rattle.xs_signal.specs.Samples.{IsDepth, IsPrecision, scale_in}
-use Rattle.xs_signal.specs.Wavelet.{Split, bands_of, band_plane}
-use Rattle.xs_grammar.specs.Geometry.{component_width}
-use Rattle.xs_grammar.specs.Header.{IsAccepted}
+use Rattle.xs_signal.specs.Samples.{scale_in}
+use Rattle.xs_layout.specs.Limits.{IsDepth, IsPrecision}
+use Rattle.xs_signal.specs.Wavelet.{Split, bands_of_plane, band_plane}
+use Rattle.xs_params.specs.Geometry.{component_width}
+use Rattle.xs_params.specs.Accepted.{IsAccepted}
 use Rattle.xs_rate.specs.Coefficients.{signal_of}
 use Rattle.xs_wave.specs.Within.{SameWithin}
 use Rattle.xs_wave.specs.Planes.{plane_of, HasSize, IsSmall}
@@ -75,26 +76,26 @@ grey_component h accepted mono = accepted_component h 0 accepted (grey_there h m
 
 -- the bands of the scaled samples are those of the picture
 pub bands_are : (h : Header) (picture : Picture) → h.colour ≡ false
-    → bands_of (component_split h 0) (scaled (signal_of h) (sample_at picture) 0) ≡ analysed (signal_of h) (sample_at picture) 0
+    → bands_of_plane (component_split h 0) (scaled (signal_of h) (sample_at picture) 0) ≡ analysed (signal_of h) (sample_at picture) 0
 bands_are h picture plain =
-    ap (λ colour. bands_of (component_split h 0) ((if colour then coloured (scaled (signal_of h) (sample_at picture)) else scaled (signal_of h) (sample_at picture)) 0)) (sym plain)
+    ap (λ colour. bands_of_plane (component_split h 0) ((if colour then coloured (scaled (signal_of h) (sample_at picture)) else scaled (signal_of h) (sample_at picture)) 0)) (sym plain)
 
 -- the planes of the bands of a plane that holds the scaled samples are those of the picture
 pub bands_of_picture : (h : Header) (picture : Picture) (plane : List (List ℤ)) (planes : List (List (List ℤ))) → IsAccepted h → h.shape.format ≡ Mono → h.colour ≡ false
     → HoldsPlane h.shape.width h.shape.height (2 ^ 20) (scaled (signal_of h) (sample_at picture) 0) plane
-    → AreBandPlanes (split_of plane h.nlx h.nly) planes → ShowBands (split_of plane h.nlx h.nly) planes (bands_of (split_of plane h.nlx h.nly) (plane_of plane)) → AreBandsOf h picture planes
+    → AreBandPlanes (split_of plane h.nlx h.nly) planes → ShowBands (split_of plane h.nlx h.nly) planes (bands_of_plane (split_of plane h.nlx h.nly) (plane_of plane)) → AreBandsOf h picture planes
 bands_of_picture h picture plane planes accepted mono plain holds are show = record {
   grey = record {
     sized = sized;
     small = λ number.
         elim (cases_lt number (band_count s)) [
-          | inl inside ↦ plane_small (2 ^ 50) (2 ^ 50) (columns_in s (type_at s number)) (rows_in s (type_at s number)) (get_or planes number []) (band_plane (bands_of s (plane_of plane)) (type_at s number)) (omega arith) (omega arith)
+          | inl inside ↦ plane_small (2 ^ 50) (2 ^ 50) (columns_in s (type_at s number)) (rows_in s (type_at s number)) (get_or planes number []) (band_plane (bands_of_plane s (plane_of plane)) (type_at s number)) (omega arith) (omega arith)
               (sized.sizes number inside) (shown number inside) (types_small s (plane_of plane) component.deep component.few holds.small number inside)
           | inr past ↦ subst (IsSmall (2 ^ 50)) (sym (get_or_past planes number [] (omega (arith, past, sized.as_many)))) (rows_small (2 ^ 50) [] (omega arith) (λ row inside. absurd (omega (arith, inside))))
         ];
   };
   shown = subst (ShowBands s planes) (bands_are h picture plain)
-      (λ number inside row column above within. shown number inside row column above within ∙ same_types s (bands_of s (plane_of plane)) (bands_of s q) component.deep (transforms_within.split s (plane_of plane) q (splits s component) same) number inside row column above within);
+      (λ number inside row column above within. shown number inside row column above within ∙ same_types s (bands_of_plane s (plane_of plane)) (bands_of_plane s q) component.deep (transforms_within.split s (plane_of plane) q (splits s component) same) number inside row column above within);
 }
   where
     s : Split
@@ -107,13 +108,13 @@ bands_of_picture h picture plane planes accepted mono plain holds are show = rec
     component = grey_component h accepted mono
 
     is : split_of plane h.nlx h.nly ≡ s
-    is = grey_split h plane (omega (arith, accepted.height)) holds.size
+    is = grey_split h plane (omega (arith, accepted.geometry.shape.height)) holds.size
 
     sized : AreBandPlanes s planes
     sized = subst (λ x. AreBandPlanes x planes) is are
 
-    shown : ShowBands s planes (bands_of s (plane_of plane))
-    shown = subst (λ x. ShowBands x planes (bands_of x (plane_of plane))) is show
+    shown : ShowBands s planes (bands_of_plane s (plane_of plane))
+    shown = subst (λ x. ShowBands x planes (bands_of_plane x (plane_of plane))) is show
 
     same : SameWithin s.width s.height (plane_of plane) q
     same row column above within = holds.same row column above (omega (arith, within, grey_width h))

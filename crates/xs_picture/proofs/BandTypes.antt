@@ -5,7 +5,7 @@ use Rattle.std.proofs.lemmas.Bool.{cases_lt}
 use Rattle.std.proofs.lemmas.Int.{ints}
 use Rattle.xs_layout.specs.Geometry.{BandType, ll, hl}
 use Rattle.xs_signal.specs.Lines.{AllBelow, column_of}
-use Rattle.xs_signal.specs.Wavelet.{Split, Bands, band_plane, bands_of, low_count, high_count, low_count_at, low_of, high_of, low_part, columns_kept, columns_low, columns_high}
+use Rattle.xs_signal.specs.Wavelet.{Split, Bands, band_plane, bands_of_plane, low_count, high_count, low_count_at, low_of, high_of, low_part, columns_kept, columns_low, columns_high}
 use Rattle.xs_signal.specs.Stripe.{rows_at}
 use Rattle.xs_signal.proofs.Floors.{half_low, half_high, quarter_low, quarter_high}
 use Rattle.xs_wave.specs.Within.{SameWithin, SameBandsWithin}
@@ -135,7 +135,7 @@ record AreSmallBands (b : Bands) : Type 0 where
   lh : (level : ℕ) → level ≤ 5 → IsLow (2 ^ 50) (b.lh level)
   hh : (level : ℕ) → level ≤ 5 → IsLow (2 ^ 50) (b.hh level)
 
-bands_small : (s : Split) (p : ℕ → ℕ → ℤ) → IsLow (2 ^ 20) p → AreSmallBands (bands_of s p)
+bands_small : (s : Split) (p : ℕ → ℕ → ℤ) → IsLow (2 ^ 20) p → AreSmallBands (bands_of_plane s p)
 bands_small s p low = record {
   hl = λ level few row column.
       let q = columns_kept s (level - 1) (low_part s p (level - 1)) in
@@ -161,9 +161,9 @@ deep_small b small level (suc (suc zero)) less few = small.hh (suc level) (omega
 deep_small b small level (suc (suc (suc side))) less few = absurd (omega (arith, few))
 
 -- the bands of a plane of small numbers are small
-pub types_small : (s : Split) (p : ℕ → ℕ → ℤ) → s.down ≤ s.across → s.across ≤ 5 → IsLow (2 ^ 20) p → (number : ℕ) → number < band_count s → IsLow (2 ^ 50) (band_plane (bands_of s p) (type_at s number))
+pub types_small : (s : Split) (p : ℕ → ℕ → ℤ) → s.down ≤ s.across → s.across ≤ 5 → IsLow (2 ^ 20) p → (number : ℕ) → number < band_count s → IsLow (2 ^ 50) (band_plane (bands_of_plane s p) (type_at s number))
 types_small s p deep few low =
-    each_type s (λ type. IsLow (2 ^ 50) (band_plane (bands_of s p) type)) deep
+    each_type s (λ type. IsLow (2 ^ 50) (band_plane (bands_of_plane s p) type)) deep
     (low_more (reach s.across) (2 ^ 50) (low_part s p s.across) (omega (arith, reach_most s.across few)) (part_low s p low s.across))
     (λ level from to. (bands_small s p low).hl (suc level) (omega (arith, to, few)))
-    (λ level side less low_side. deep_small (bands_of s p) (bands_small s p low) level side (omega (arith, less, deep, few)) low_side)
+    (λ level side less low_side. deep_small (bands_of_plane s p) (bands_small s p low) level side (omega (arith, less, deep, few)) low_side)

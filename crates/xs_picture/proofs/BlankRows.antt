@@ -5,8 +5,8 @@ use Rattle.std.proofs.Math.ListN.{get_or-append}
 use Rattle.std.proofs.lemmas.List.{get_or-append_right}
 use Rattle.xs_layout.specs.Geometry.{groups_of}
 use Rattle.xs_params.specs.declared.header.Header.{Header}
-use Rattle.xs_grammar.specs.Geometry.{bands_of, band_width_of, precinct_lines}
-use Rattle.xs_picture.specs.PrecinctRows.{AreBlank, HaveRoom}
+use Rattle.xs_params.specs.Geometry.{bands_of, band_width_of, precinct_lines}
+use Rattle.xs_picture.specs.PrecinctRows.{AreRoomyRows, HasRows}
 
 -- an item at the end of a list, and one before it
 last : {A : Type 0} (xs : List A) (x d : A) (k : ℕ) → k ≡ length xs → get_or (xs ++ x ∷ []) k d ≡ x
@@ -26,10 +26,10 @@ each_more P xs x d count size old new k below = elim (cases_lt k count) [
 
 -- Rows of one band
 
-pub no_row : (groups : ℕ) → AreBlank groups 0 []
+pub no_row : (groups : ℕ) → AreRoomyRows groups 0 []
 no_row groups = record { lines = refl; wide = λ k less. absurd (omega (arith, less)) }
 
-pub row_more : (groups count : ℕ) (rows : List (List ℤ)) (row : List ℤ) → AreBlank groups count rows → length row ≡ 4 * groups → AreBlank groups (count + 1) (rows ++ row ∷ [])
+pub row_more : (groups count : ℕ) (rows : List (List ℤ)) (row : List ℤ) → AreRoomyRows groups count rows → length row ≡ 4 * groups → AreRoomyRows groups (count + 1) (rows ++ row ∷ [])
 row_more groups count rows row are wide = record {
   lines = omega (arith, length-append rows (row ∷ []), are.lines);
   wide = each_more (λ k (r : List ℤ). length r ≡ 4 * groups) rows row [] count are.lines are.wide wide;
@@ -38,7 +38,7 @@ row_more groups count rows row are wide = record {
 -- Rows of the first bands
 
 abbrev pub AreBand : Header → ℕ → List (List ℤ) → Type 0
-AreBand h band rows = AreBlank (groups_of (band_width_of h band)) (precinct_lines h band) rows
+AreBand h band rows = AreRoomyRows (groups_of (band_width_of h band)) (precinct_lines h band) rows
 
 pub record HaveFirst (h : Header) (count : ℕ) (rows : List (List (List ℤ))) : Type 0 where
   pub count_is : length rows ≡ count
@@ -53,7 +53,7 @@ band_more h count rows band first one = record {
   each = each_more (AreBand h) rows band [] count first.count_is first.each one;
 }
 
-pub all_bands : (h : Header) (count : ℕ) (rows : List (List (List ℤ))) → count ≡ bands_of h → HaveFirst h count rows → HaveRoom h rows
+pub all_bands : (h : Header) (count : ℕ) (rows : List (List (List ℤ))) → count ≡ bands_of h → HaveFirst h count rows → HasRows h rows
 all_bands h count rows all first = record {
   count = first.count_is ∙ all;
   lines = λ band less. (first.each band (omega (arith, less, all))).lines;

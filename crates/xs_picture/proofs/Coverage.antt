@@ -7,8 +7,8 @@ use Rattle.xs_layout.specs.declared.Format.{Format}
 use Rattle.xs_layout.specs.declared.Format.TheVariants.{Mono, C422, C444}
 use Rattle.xs_layout.specs.Geometry.{BandType, band_types, components_of, side_size, ceil_div, ll}
 use Rattle.xs_params.specs.declared.header.Header.{Header}
-use Rattle.xs_grammar.specs.Geometry.{bands_of, band_type_of, band_height_of, band_width_of, precinct_count, precinct_lines, slice_count}
-use Rattle.xs_grammar.specs.Header.{IsAccepted}
+use Rattle.xs_params.specs.Geometry.{bands_of, band_type_of, band_height_of, band_width_of, precinct_count, precinct_lines, slice_count}
+use Rattle.xs_params.specs.Accepted.{IsAccepted}
 use Rattle.xs_geometry.specs.SliceLines.{HasLine, row_at, slice_height}
 use Rattle.xs_geometry.specs.Sides.{deep_side}
 use Rattle.xs_geometry.proofs.Types.{wide_type, deep_type}
@@ -64,7 +64,7 @@ number_inside C444 types band inside = omega (arith, inside)
 height_most : (h : Header) (band : ℕ) → IsAccepted h → band < bands_of h → band_height_of h band ≤ precinct_count h * precinct_lines h band
 height_most h band accepted inside =
     side_most h.shape.height (band_type_of h band).down h.nly (band_type_of h band).high_down
-    (down_most h.nlx h.nly (band / components_of h.shape.format) (omega (arith, accepted.nly)) (number_inside h.shape.format (2 * h.nly + h.nlx + 1) band inside)) (omega (arith, accepted.nly))
+    (down_most h.nlx h.nly (band / components_of h.shape.format) (omega (arith, accepted.geometry.nly)) (number_inside h.shape.format (2 * h.nly + h.nlx + 1) band inside)) (omega (arith, accepted.geometry.nly))
 
 -- ---- slices
 
@@ -79,7 +79,7 @@ quotient_below n d q some less =
     ]
 
 pub lines_some : (h : Header) (band : ℕ) → IsAccepted h → 0 < slice_height h band
-lines_some h band accepted = product h.hsl (precinct_lines h band) accepted.hsl (pow_pos (h.nly - (band_type_of h band).down))
+lines_some h band accepted = product h.hsl (precinct_lines h band) accepted.geometry.hsl (pow_pos (h.nly - (band_type_of h band).down))
   where
     product : (m n : ℕ) → 1 ≤ m → 0 < n → 0 < m * n
     product (suc m) n some more = omega (arith, more)
@@ -88,7 +88,7 @@ lines_some h band accepted = product h.hsl (precinct_lines h band) accepted.hsl 
 -- each line of a band lies in a slice
 pub slice_there : (h : Header) (band line : ℕ) → IsAccepted h → band < bands_of h → line < band_height_of h band → line / slice_height h band < slice_count h
 slice_there h band line accepted inside less =
-    let covers : precinct_count h * precinct_lines h band ≤ slice_count h * h.hsl * precinct_lines h band = mul-le-mul_right (precinct_lines h band) (ceil_covers (precinct_count h) h.hsl accepted.hsl) in
+    let covers : precinct_count h * precinct_lines h band ≤ slice_count h * h.hsl * precinct_lines h band = mul-le-mul_right (precinct_lines h band) (ceil_covers (precinct_count h) h.hsl accepted.geometry.hsl) in
     let grouped : slice_count h * h.hsl * precinct_lines h band ≡ slice_count h * slice_height h band = mul_assoc (slice_count h) h.hsl (precinct_lines h band) in
     quotient_below line (slice_height h band) (slice_count h) (lines_some h band accepted) (omega (arith, less, height_most h band accepted inside, covers, grouped))
 

@@ -8,7 +8,7 @@ use Rattle.xs_params.specs.declared.header.Header.{Header}
 use Rattle.xs_signal.specs.Lines.{AllBelow, IsBelow, entries_of}
 use Rattle.xs_signal.specs.Picture.{each_entry}
 use Rattle.xs_signal.specs.Wavelet.{Split, Bands, band_plane, inverse_plane}
-use Rattle.xs_grammar.specs.Geometry.{band_width_of, band_height_of, component_width}
+use Rattle.xs_params.specs.Geometry.{band_width_of, band_height_of, component_width}
 use Rattle.xs_wave.specs.Within.{SameWithin}
 use Rattle.xs_wave.specs.Planes.{plane_of, HasSize, IsSmall}
 use Rattle.xs_wave.specs.Bands.{AreBandPlanes, ShowBands, HasBandSize, type_at, columns_in, rows_in}
@@ -16,7 +16,7 @@ use Rattle.xs_decoding.specs.Decoded.{band_number, component_bands}
 use Rattle.xs_decoding.proofs.Numbers.{type_in, plane_of_number, width_of_number, height_of_number}
 use Rattle.xs_decoding.proofs.Within.{accepted_component}
 use Rattle.xs_picture.specs.Coefs.{Coefs, AreCoefs, rows_of_slices}
-use Rattle.xs_picture.specs.Decoding.{raised, raised_band, raised_bands, coefficient_bound, colour_bound, IsBandPlane, component_split, AreComponentBands, IsComponentPlane, joined_planes}
+use Rattle.xs_picture.specs.Decoding.{raised_to, raised_band, raised_bands, coefficient_bound, colour_bound, IsBandPlane, component_split, AreComponentBands, IsComponentPlane, joined_planes}
 use Rattle.xs_picture.proofs.Held.{HoldsTo, holds_more, holds_all}
 use Rattle.xs_picture.proofs.Bounds.{zero_below, rows_small, AreBandsLow, inverse_low}
 
@@ -83,7 +83,7 @@ bands_shown c component planes deep there are number inside row column above wit
     let b = component_bands h rows component in
     let plane = are.each number (omega (arith, inside, are.as_many)) in
     plane.same row column (omega (arith, above, height_of_number h number component there)) (omega (arith, within, width_of_number h number component there))
-    ∙ ap (λ p. raised h (p row column)) (sym (plane_of_number h rows number component deep inside)) ∙ sym (each_plane (raised h) b (type_at s number) row column)
+    ∙ ap (λ p. raised_to h (p row column)) (sym (plane_of_number h rows number component deep inside)) ∙ sym (each_plane (raised_to h) b (type_at s number) row column)
 
 -- the bands that planes hold
 abbrev held : Header → ℕ → List (List (List ℤ)) → Bands
@@ -116,7 +116,7 @@ joined_all c component planes plane are there bands size joined = record {
 }
   where
     deep : c.header.nly ≤ c.header.nlx
-    deep = omega (arith, are.accepted.nly)
+    deep = omega (arith, are.accepted.geometry.nly)
 
     s : Split
     s = component_split c.header component

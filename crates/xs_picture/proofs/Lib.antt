@@ -3,6 +3,7 @@ pub mod Borders
 pub mod Ranges
 pub mod Packets
 pub mod Linked
+pub mod Room
 pub mod Bounds
 pub mod Held
 pub mod Filled

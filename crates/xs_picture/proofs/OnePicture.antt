@@ -7,8 +7,8 @@ use Rattle.xs_lists.specs.Spelling.{upto}
 use Rattle.xs_lists.proofs.Each.{all-range}
 use Rattle.xs_params.specs.declared.header.Header.{Header}
 use Rattle.xs_signal.specs.Quantiser.{dequantised}
-use Rattle.xs_grammar.specs.Geometry.{bands_of, band_width_of, packet_bands, packets_of, precincts_of, slice_count}
-use Rattle.xs_grammar.specs.Header.{IsAccepted}
+use Rattle.xs_params.specs.Geometry.{bands_of, band_width_of, packet_bands, packets_of, precincts_of, slice_count}
+use Rattle.xs_params.specs.Accepted.{IsAccepted}
 use Rattle.xs_grammar.specs.Precinct.{Content, line_truncation, precinct_of}
 use Rattle.xs_grammar.specs.Laws.{SameBandLine, SamePrecinct}
 use Rattle.xs_grammar.proofs.OneSlice.{truncation_at}
@@ -19,7 +19,7 @@ use Rattle.xs_geometry.proofs.PacketLines.{line_in_one_packet}
 use Rattle.xs_geometry.proofs.WrittenRows.{accepted_ranges}
 use Rattle.xs_decoding.specs.Decoded.{IsDecodingOf}
 use Rattle.xs_decoding.specs.Dequantised.{dequantised_rows}
-use Rattle.xs_decoding.specs.Laws.{SameWithin}
+use Rattle.xs_decoding.specs.Laws.{SameRowsWithin}
 use Rattle.xs_decoding.proofs.Packets.{IsHere, places_here}
 use Rattle.xs_decoding.proofs.Within.{decoded_within}
 use Rattle.xs_picture.specs.OnePicture.{OnePicture}
@@ -44,7 +44,7 @@ all_has P xs x h has = subst P has.2 (all_at P xs has.0 x h has.1)
 
 -- two contents that agree on all precincts have the same rows
 within_one : (h : Header) (content other : Content) → IsAccepted h → AllByRecursion (λ slice. AllByRecursion (SamePrecinct h content other) (precincts_of h slice)) (upto (slice_count h))
-    → SameWithin h (dequantised_rows h content) (dequantised_rows h other)
+    → SameRowsWithin h (dequantised_rows h content) (dequantised_rows h other)
 within_one h content other accepted same band line column inside there within =
     rows_one h content other band line column precinct within here.0 one (subst (SameBandLine h content other band) holds.line_is line_same)
   where
@@ -69,7 +69,7 @@ within_one h content other accepted same band line column inside there within =
     here : (precinct_of h band line ≡ found.1) × (band < bands_of h)
     here = subst (λ line. (precinct_of h band line ≡ found.1) × (band < bands_of h)) holds.line_is
         (all_has (λ band. (precinct_of h band (packet_at h found.1 found.2).line ≡ found.1) × (band < bands_of h)) (packet_bands h (packet_at h found.1 found.2)) band
-        (all_at (IsHere h found.1) (packets_of h found.1) found.2 no_place (places_here h found.1 (omega (arith, accepted.nly))) holds.number_there) holds.band_in)
+        (all_at (IsHere h found.1) (packets_of h found.1) found.2 no_place (places_here h found.1 (omega (arith, accepted.geometry.nly))) holds.number_there) holds.band_in)
 
 pub one_picture : OnePicture
 one_picture h other content contents bytes n m picture p q decoded = (
@@ -89,5 +89,5 @@ one_picture h other content contents bytes n m picture p q decoded = (
     lengths : n ≡ m
     lengths = omega (arith, p.0, q.0, ap length one.0, length-drop n bytes, length-drop m bytes)
 
-    same : SameWithin h (dequantised_rows h content) (dequantised_rows h contents)
+    same : SameRowsWithin h (dequantised_rows h content) (dequantised_rows h contents)
     same = within_one h content contents p.1.spelled.headed.accepted one.2

@@ -1,31 +1,27 @@
 -- The lines of a packet.
-use Rattle.std.proofs.Common.{◌≡◌, ℕ, ◌+◌, ◌-◌, ◌*◌, ◌<◌, ◌≤◌, length, get_or, sym, ap, subst, ◌∙◌, arith}
+use Rattle.std.proofs.Common.{◌≡◌, ℕ, ◌+◌, ◌-◌, ◌*◌, ◌<◌, ◌≤◌, length, sym, ap, subst, ◌∙◌, arith}
 use Rattle.std.specs.List.{range_with_len, Contains}
-use Rattle.std.proofs.lemmas.List.{get_or_default}
 use Rattle.xs_layout.specs.Geometry.{PacketPlace, components_of}
 use Rattle.xs_params.specs.declared.header.Header.{Header}
-use Rattle.xs_grammar.specs.Geometry.{bands_of, packet_bands, packets_of}
-use Rattle.xs_geometry.specs.Kept.{IsGeometry}
+use Rattle.xs_params.specs.Geometry.{bands_of, packet_bands, packets_of}
+use Rattle.xs_params.specs.Accepted.{IsGeometry}
 use Rattle.xs_geometry.specs.Lines.{IsLineOf}
-use Rattle.xs_geometry.specs.Places.{no_place, packet_at}
+use Rattle.xs_geometry.specs.Places.{packet_at}
 use Rattle.xs_geometry.proofs.PacketLines.{packets_have_lines}
 use Rattle.xs_geometry.proofs.PlaceFacts.{in_range}
-use Rattle.xs_rate.specs.Laws.{IsNarrow}
-use Rattle.xs_picture.specs.PacketBits.{IsPacketOf}
+use Rattle.xs_picture.specs.PacketBits.{IsPacketPlace}
 
 -- what is known of the place of a packet with a number
-pub packet_known : (h : Header) (precinct number : ℕ) (place : PacketPlace) → IsGeometry h → IsNarrow h → number < length (packets_of h precinct) → place ≡ packet_at h precinct number
-    → (place.first_type + place.types) * components_of h.shape.format ≤ bands_of h → IsPacketOf h precinct place
-packet_known h precinct number place ranges narrow inside here there =
-    let same : get_or (packets_of h precinct) number place ≡ place = get_or_default (packets_of h precinct) number place no_place inside ∙ sym here in
+pub packet_known : (h : Header) (precinct number : ℕ) (place : PacketPlace) → IsGeometry h → number < length (packets_of h precinct) → place ≡ packet_at h precinct number
+    → (place.first_type + place.types) * components_of h.shape.format ≤ bands_of h → IsPacketPlace h precinct place
+packet_known h precinct number place ranges inside here there =
     record {
       bands_there = there;
       lines = subst (λ p. (band : ℕ) → Contains (packet_bands h p) band → IsLineOf h precinct band p.line) (sym here) (λ band has. packets_have_lines h precinct number band ranges inside has);
-      narrow = narrow precinct place (number, inside, same);
     }
 
 -- each band that is gone over has the line
-pub line_in : (h : Header) (precinct : ℕ) (place : PacketPlace) (first end band : ℕ) → IsPacketOf h precinct place → packet_bands h place ≡ range_with_len first (end - first) → first ≤ band → band < end
+pub line_in : (h : Header) (precinct : ℕ) (place : PacketPlace) (first end band : ℕ) → IsPacketPlace h precinct place → packet_bands h place ≡ range_with_len first (end - first) → first ≤ band → band < end
     → IsLineOf h precinct band place.line
 line_in h precinct place first end band packet listed from to =
     packet.lines band (subst (λ l. Contains l band) (sym listed) (in_range first (end - first) band from (omega (arith, from, to))))

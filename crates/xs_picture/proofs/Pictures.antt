@@ -1,13 +1,18 @@
 -- Headers and slices of what is built.
-use Rattle.std.proofs.Common.{◌≡◌, ℕ, ◌+◌, ◌<◌, ◌≤◌, List, [], ◌∷◌, ◌++◌, length, map, refl, sym, ap, subst, ◌∙◌, arith, inl, inr, pos}
-use Rattle.std.specs.Prelude.{⊤, All, Result, Ok, Err, IfErr, MatchResult}
-use Rattle.std.proofs.Common.{get_or}
+use Rattle.std.proofs.Common.{◌≡◌, ℕ, ◌+◌, ◌*◌, ◌<◌, ◌≤◌, List, [], ◌∷◌, ◌++◌, length, map, refl, sym, ap, subst, ◌∙◌, arith, inl, inr}
+use Rattle.std.specs.Prelude.{⊤, Result, Ok, Err, IfErr, MatchResult}
+use Rattle.std.specs.List.{sum_by, AllByRecursion}
+use Rattle.std.proofs.Math.Nat.{suc-mul}
+use Rattle.std.proofs.lemmas.List.Sums.{sum_by-cons}
+use Rattle.xs_lists.proofs.Each.{range-all}
+use Rattle.xs_lists.proofs.Walk.{all-of_map}
+use Rattle.xs_layout.specs.Limits.{header_room, most_slices, most_stream}
 use Rattle.std.proofs.lemmas.Bool.{cases_eq}
-use Rattle.std.proofs.lemmas.List.FromFn.{map-range_with_len_more, length-map-range_with_len, get_or-map-range_with_len}
+use Rattle.std.proofs.lemmas.List.FromFn.{map-range_with_len_more, length-map-range_with_len}
 use Rattle.xs_faults.specs.declared.SliceRefusal.{SliceRefusal}
 use Rattle.xs_faults.specs.declared.SliceRefusal.TheVariants as refusal
 use Rattle.xs_grammar.specs.Coded.{header_bytes}
-use Rattle.xs_picture.specs.Encoded.{IsEncoding, IsOver, IsRefusal}
+use Rattle.xs_picture.specs.Encoded.{IsEncodingOrMemory, IsOver, IsRefusal}
 use Rattle.xs_lists.specs.Spelling.{upto}
 use Rattle.xs_layout.specs.Candidates.{finest}
 use Rattle.xs_params.specs.declared.settings.Settings.{Settings}
@@ -16,32 +21,16 @@ use Rattle.xs_params.specs.Check.{AreInRange}
 use Rattle.xs_params.specs.Headers.{header_of}
 use Rattle.xs_params.specs.Picture.{Picture}
 use Rattle.xs_faults.specs.declared.Budget.{Budget}
-use Rattle.xs_grammar.specs.Geometry.{slice_count, bands_of}
-use Rattle.xs_grammar.specs.Header.{IsAccepted}
-use Rattle.xs_rate.specs.Coefficients.{Rows, rows_of}
-use Rattle.xs_rate.specs.Encoding.{IsBuilt, encoding_of, slice_at, slices_at, size_at, coarsest, stream_of, with_length}
+use Rattle.xs_params.specs.Geometry.{slice_count}
+use Rattle.xs_params.proofs.Accepted.{header_accepted}
+use Rattle.xs_params.specs.Accepted.{IsAccepted}
+use Rattle.xs_rate.specs.Coefficients.{Rows, rows_of_picture}
+use Rattle.xs_rate.specs.Encoding.{encoding_of, slice_at, slices_at, size_at, coarsest, stream_of, with_length}
 use Rattle.xs_rate.specs.Encoded.{NoneOver, IsFirstOver}
-use Rattle.xs_rate.specs.WrittenOut.{IsOneCandidate, AreFinestSlices}
-use Rattle.xs_rate.proofs.GreySlices.{one_candidate, finest_slices}
+use Rattle.xs_rate.specs.WrittenOut.{IsOneCandidate}
+use Rattle.xs_rate.proofs.FinestSlices.{one_candidate}
+use Rattle.xs_rate.proofs.Headers.{components-few, few-bands, header-size}
 use Rattle.xs_rate.proofs.FirstOver.{first_over_law}
-
--- the header of what is built can be written, whatever length it states
-pub accepted : (s : Settings) (n : ℕ) → IsBuilt s → AreInRange s → length (header_of s).weights ≡ bands_of (header_of s) → IsAccepted (with_length (header_of s) n)
-accepted s n built range weights = record {
-  width = (range.shape.least_width, range.shape.most_width);
-  height = (range.shape.least_height, range.shape.most_height);
-  area = range.shape.area;
-  depth = range.shape.depth;
-  hsl = range.least_height;
-  bits = (refl, refl);
-  colour = λ coloured. absurd (cc (coloured, built.colour));
-  nlx = (range.some_across, range.across);
-  nly = range.down;
-  slices = range.slices;
-  run_mode = omega arith;
-  narrow = range.narrowest;
-  weights = weights;
-}
 
 -- one more slice
 pub slices_more : (f : ℕ → List ℕ) (slices : List (List ℕ)) (slice : ℕ) (bytes : List ℕ) → slices ≡ map f (upto slice) → bytes ≡ f slice → slices ++ (bytes ∷ []) ≡ map f (upto (slice + 1))
@@ -54,30 +43,46 @@ pub size_is : (h : Header) (rows : Rows) (share slice : ℕ) (bytes : List ℕ) 
 size_is h rows share slice bytes are = let one : IsOneCandidate h rows share = one_candidate h rows share in one.size slice ∙ ap length (sym are)
 
 -- so the encoding is the codestream of the slices
-pub encoded : (s : Settings) (picture : Picture) (slices : List (List ℕ)) → slices ≡ slices_at (header_of s) (rows_of (header_of s) picture) (λ _. finest) → NoneOver (header_of s) (rows_of (header_of s) picture) s.share
+pub encoded : (s : Settings) (picture : Picture) (slices : List (List ℕ)) → slices ≡ slices_at (header_of s) (rows_of_picture (header_of s) picture) (λ _. finest) → NoneOver (header_of s) (rows_of_picture (header_of s) picture) s.share
     → encoding_of s picture ≡ Ok (stream_of (header_of s) slices)
 encoded s picture slices are within =
-    let one : IsOneCandidate (header_of s) (rows_of (header_of s) picture) s.share = one_candidate (header_of s) (rows_of (header_of s) picture) s.share in
+    let one : IsOneCandidate (header_of s) (rows_of_picture (header_of s) picture) s.share = one_candidate (header_of s) (rows_of_picture (header_of s) picture) s.share in
     first_over_law.given s picture within ∙ ap (λ list. Ok (stream_of (header_of s) list)) (one.slices ∙ sym are)
 
-pub refused : (s : Settings) (picture : Picture) (budget : Budget) → IsFirstOver (header_of s) (rows_of (header_of s) picture) s.share budget → encoding_of s picture ≡ Err budget
+pub refused : (s : Settings) (picture : Picture) (budget : Budget) → IsFirstOver (header_of s) (rows_of_picture (header_of s) picture) s.share budget → encoding_of s picture ≡ Err budget
 refused s picture budget first = (first_over_law.refused s picture budget).1 first
 
--- the slices are there, and none is long
-pub slices_small : (s : Settings) (picture : Picture) (slices : List (List ℕ)) → slices ≡ slices_at (header_of s) (rows_of (header_of s) picture) (λ _. finest) → NoneOver (header_of s) (rows_of (header_of s) picture) s.share
-    → AreInRange s → (length slices ≤ 2047) × All (λ slice. length slice ≤ 524286) slices
-slices_small s picture slices are within range = (omega (arith, count, range.slices), each)
-  where
-    count : length slices ≡ slice_count (header_of s)
-    count = ap length are ∙ length-map-range_with_len (λ slice. slice_at (header_of s) (rows_of (header_of s) picture) slice finest) 0 (slice_count (header_of s))
+-- there are few slices
+pub slices_few : (s : Settings) (picture : Picture) (slices : List (List ℕ)) → slices ≡ slices_at (header_of s) (rows_of_picture (header_of s) picture) (λ _. finest) → AreInRange s → length slices ≤ most_slices
+slices_few s picture slices are range =
+    omega (arith, ap length are, length-map-range_with_len (λ slice. slice_at (header_of s) (rows_of_picture (header_of s) picture) slice finest) 0 (slice_count (header_of s)), range.slices)
 
-    each : (k : ℕ) (d : List ℕ) → k < length slices → length (get_or slices k d) ≤ 524286
-    each k d inside =
-        let f = λ (slice : ℕ). slice_at (header_of s) (rows_of (header_of s) picture) slice finest in
-        let none : 0 + k ≡ k = omega arith in
-        let there : k < slice_count (header_of s) = omega (arith, inside, count) in
-        let at : get_or slices k d ≡ f k = ap (λ l. get_or l k d) are ∙ get_or-map-range_with_len f 0 (slice_count (header_of s)) k k d there none in
-        omega (arith, ap length at, within k there, size_is (header_of s) (rows_of (header_of s) picture) s.share k (f k) refl, range.most_share, range.most_chunk)
+sum_most : (share : ℕ) (slices : List (List ℕ)) → AllByRecursion (λ slice. length slice ≤ share) slices → sum_by length slices ≤ length slices * share
+sum_most share [] h = omega arith
+sum_most share (slice ∷ slices) h = omega (arith, sum_by-cons length slice slices, h.0, sum_most share slices h.1, suc-mul (length slices) share)
+
+-- the slices have room in the length that the header states
+pub slices_room : (s : Settings) (picture : Picture) (slices : List (List ℕ)) → slices ≡ slices_at (header_of s) (rows_of_picture (header_of s) picture) (λ _. finest) → NoneOver (header_of s) (rows_of_picture (header_of s) picture) s.share
+    → AreInRange s → sum_by length slices + header_room ≤ most_stream
+slices_room s picture slices are within range =
+    bound (sum_by length slices) (length slices * s.share) (sum_most s.share slices (subst (AllByRecursion (λ slice. length slice ≤ s.share)) (sym are) each)) (ap (λ n. n * s.share) count) range.stream
+  where
+    slice_of : ℕ → List ℕ
+    slice_of slice = slice_at (header_of s) (rows_of_picture (header_of s) picture) slice finest
+
+    count : length slices ≡ slice_count (header_of s)
+    count = ap length are ∙ length-map-range_with_len slice_of 0 (slice_count (header_of s))
+
+    short : (slice : ℕ) → slice < slice_count (header_of s) → length (slice_of slice) ≤ s.share
+    short slice inside = omega (arith, within slice inside, size_is (header_of s) (rows_of_picture (header_of s) picture) s.share slice (slice_of slice) refl)
+
+    each : AllByRecursion (λ slice. length slice ≤ s.share) (map slice_of (upto (slice_count (header_of s))))
+    each =
+        all-of_map (λ slice. length slice ≤ s.share) slice_of (upto (slice_count (header_of s)))
+        (range-all (λ slice. length (slice_of slice) ≤ s.share) 0 (slice_count (header_of s)) (λ slice low inside. short slice (omega (arith, inside))))
+
+    bound : (sum whole : ℕ) → sum ≤ whole → whole ≡ slice_count (header_of s) * s.share → slice_count (header_of s) * s.share + header_room ≤ most_stream → sum + header_room ≤ most_stream
+    bound sum whole p q r = omega (arith, p, q, r)
 
 -- a slice over its share is the first where those before are within theirs
 pub refusal_of : (h : Header) (rows : Rows) (share slice : ℕ) (refusal : SliceRefusal) → slice < slice_count h → ((k : ℕ) → k < slice → size_at h rows k (coarsest h) ≤ share) → IsOver h rows share slice refusal → IsRefusal h rows share refusal
@@ -105,20 +110,16 @@ within_more h rows share slice bytes are short before k below = elim (cases_eq k
   | inr other ↦ before k (omega (arith, below, other))
 ]
 
--- the header of what is built is short
-pub header_short : (s : Settings) (h : Header) → IsBuilt s → AreInRange s → h ≡ header_of s → length (header_bytes h) ≤ 64
-header_short s h built range same =
-    let none : Rows = λ band line column. pos 0 in
-    let known : AreFinestSlices (header_of s) none = finest_slices s none built range (λ band line column. omega arith) in
-    omega (arith, ap (λ x. length (header_bytes x)) same, known.header 0, known.bands)
+-- the header is short
+pub header_short : (s : Settings) (h : Header) → AreInRange s → h ≡ header_of s → length (header_bytes h) ≤ 108
+header_short s h range same = omega (arith, ap (λ x. length (header_bytes x)) same, header-size s range 0, components-few s.shape.format, few-bands s range)
 
--- the header that was made, with any length
-pub accepted_header : (s : Settings) (h : Header) (n : ℕ) → IsBuilt s → AreInRange s → h ≡ header_of s → length h.weights ≡ bands_of (header_of s) → IsAccepted (with_length h n)
-accepted_header s h n built range same weights =
-    subst (λ x. IsAccepted (with_length x n)) (sym same) (accepted s n built range (ap (λ x. length x.weights) (sym same) ∙ weights))
+-- it can be written with any length
+pub accepted_header : (s : Settings) (h : Header) (n : ℕ) → AreInRange s → h ≡ header_of s → IsAccepted (with_length h n)
+accepted_header s h n range same = subst (λ x. IsAccepted (with_length x n)) (sym same) (header_accepted s n range)
 
 -- what a refusal, or the slices, say of the encoding
-pub refusal_encodes : (s : Settings) (picture : Picture) (why : SliceRefusal) → IsRefusal (header_of s) (rows_of (header_of s) picture) s.share why → IsEncoding (encoding_of s picture) (Err why)
+pub refusal_encodes : (s : Settings) (picture : Picture) (why : SliceRefusal) → IsRefusal (header_of s) (rows_of_picture (header_of s) picture) s.share why → IsEncodingOrMemory (encoding_of s picture) (Err why)
 refusal_encodes s picture (refusal.Budget budget) first = refused s picture budget first
 refusal_encodes s picture refusal.Memory first = tt
 

@@ -5,7 +5,7 @@ use Rattle.std.proofs.Math.ListN.{get_or-append}
 use Rattle.std.proofs.lemmas.Bool.{cases_eq, cases_lt}
 use Rattle.std.proofs.lemmas.List.{get_or-append_right, get_or-take, get_or-drop, length-take}
 use Rattle.std.proofs.lemmas.Nat.{pow_pos}
-use Rattle.xs_params.specs.Picture.{Picture, IsPicture, IsPlace, IsRow, row_first, sample_at, width_of, with_row}
+use Rattle.xs_params.specs.Picture.{Picture, IsPicture, IsPlace, IsRow, row_first, sample_at, width_of, with_samples}
 use Rattle.xs_params.proofs.Areas.{rows_apart, row_end}
 use Rattle.xs_signal.specs.Samples.{clamped, scale_out}
 
@@ -41,13 +41,13 @@ after_part xs part first k inside more =
 
 -- the samples of the row that was written
 pub row_written : (p : Picture) (component row column : ℕ) (samples : List ℕ) → IsPicture p → IsRow p.shape component row → length samples ≡ width_of p.shape component → column < length samples
-    → sample_at (with_row p component row samples) component row column ≡ get_or samples column 0
+    → sample_at (with_samples p component row samples) component row column ≡ get_or samples column 0
 row_written p component row column samples picture there wide within =
     part_at p.samples samples (row_first p.shape component row) column (omega (arith, row_end p.shape component row there, picture.size)) within
 
 -- and of each other row
 pub row_kept : (p : Picture) (component row other later column : ℕ) (samples : List ℕ) → IsPicture p → IsRow p.shape component row → length samples ≡ width_of p.shape component
-    → IsPlace p.shape other later column → (other ≢ component) ⊎ (later ≢ row) → sample_at (with_row p component row samples) other later column ≡ sample_at p other later column
+    → IsPlace p.shape other later column → (other ≢ component) ⊎ (later ≢ row) → sample_at (with_samples p component row samples) other later column ≡ sample_at p other later column
 row_kept p component row other later column samples picture there wide place apart =
     elim (cases_lt other component) [
       | inl less ↦ earlier (rows_apart p.shape other later component row place.row_there there (inl less))
@@ -67,8 +67,8 @@ row_kept p component row other later column samples picture there wide place apa
     after same more (inl different) = absurd (different same)
     after same more (inr different) = omega (arith, more, different)
 
-    earlier : row_first p.shape other later + width_of p.shape other ≤ row_first p.shape component row → sample_at (with_row p component row samples) other later column ≡ sample_at p other later column
+    earlier : row_first p.shape other later + width_of p.shape other ≤ row_first p.shape component row → sample_at (with_samples p component row samples) other later column ≡ sample_at p other later column
     earlier before = before_part p.samples samples (row_first p.shape component row) (row_first p.shape other later + column) inside (omega (arith, before, place.column_there))
 
-    beyond : row_first p.shape component row + width_of p.shape component ≤ row_first p.shape other later → sample_at (with_row p component row samples) other later column ≡ sample_at p other later column
+    beyond : row_first p.shape component row + width_of p.shape component ≤ row_first p.shape other later → sample_at (with_samples p component row samples) other later column ≡ sample_at p other later column
     beyond behind = after_part p.samples samples (row_first p.shape component row) (row_first p.shape other later + column) inside (omega (arith, behind, wide))

@@ -1,12 +1,12 @@
 -- What is written at mode 0 is of the form that is read.
-use Rattle.std.proofs.Common.{◌≡◌, ℕ, ◌+◌, ◌<◌, ◌^◌, List, [], ◌∷◌, ◌++◌, ◌*◌, map, length, refl, sym, ap, subst, ◌∙◌, arith, inr, append-nil, length-append}
+use Rattle.std.proofs.Common.{◌≡◌, ℕ, ◌+◌, ◌<◌, ◌^◌, List, [], ◌∷◌, ◌++◌, map, length, refl, sym, ap, subst, ◌∙◌, arith, inr, length-append}
 use Rattle.std.specs.Prelude.{Bool, true, false, nat_lt, Ok}
 use Rattle.std.specs.List.{flat_map, list_all, sum_by, concat, AllByRecursion}
 use Rattle.std.proofs.Math.Path.{fun_ext}
 use Rattle.std.proofs.lemmas.Bool.{and_parts, ltb-true}
 use Rattle.std.proofs.lemmas.List.Concat.{length-flat_map, concat_is}
 use Rattle.std.proofs.lemmas.List.Folds.{flat_map-map}
-use Rattle.xs_lists.specs.Bits.{bit_of, bits_of_fields, HaveRoom}
+use Rattle.xs_lists.specs.Bits.{bit_of, bits_of_fields, FieldsFit}
 use Rattle.xs_lists.specs.Packing.{missing_bits}
 use Rattle.xs_lists.specs.Spelling.{upto, SpellsEach}
 use Rattle.xs_lists.proofs.Bitwise.{fields-are}
@@ -19,25 +19,26 @@ use Rattle.xs_layout.specs.Geometry.{PacketPlace}
 use Rattle.xs_layout.specs.declared.Weight.{Weight}
 use Rattle.xs_params.specs.declared.header.Header.{Header}
 use Rattle.xs_params.specs.Headers.{header_of}
-use Rattle.xs_params.specs.Stream.{Stream, stream_bytes, end_marker}
+use Rattle.xs_params.specs.Stream.{Stream, stream_bytes}
+use Rattle.xs_params.specs.Markers.{eoc}
 use Rattle.xs_spelling.proofs.OneData.{bit_of-one}
-use Rattle.xs_grammar.specs.Geometry.{bands_of, packet_bands, packets_of, precincts_of, slice_count}
+use Rattle.xs_params.specs.Geometry.{bands_of, packet_bands, packets_of, precincts_of, slice_count}
 use Rattle.xs_grammar.specs.Packet.{packet_fields}
 use Rattle.xs_grammar.specs.Precinct.{Content, IsPrecinct, SpellsPacket, precinct_fields}
 use Rattle.xs_grammar.specs.Slice.{IsSlice}
-use Rattle.xs_grammar.specs.Coded.{field_bytes, lines_fields, packet_line, packet_bytes, packet_fits, precinct_body, precinct_bytes, precinct_fits, slice_bytes, slice_fits, header_bytes, flags_part, counts_part, data_part, signs_part, HasRoom, IsWritable, IsWritableLine, IsWritablePrecinct}
+use Rattle.xs_grammar.specs.Coded.{no_filler, field_bytes, lines_fields, packet_line, packet_bytes, packet_fits, packets_bytes, precinct_body, precinct_bytes, precinct_fits, slice_bytes, slice_fits, header_bytes, flags_part, counts_part, data_part, signs_part, HasRoom, IsWritable, IsWritableLine, IsWritablePrecinct}
 use Rattle.xs_grammar.specs.Header.{IsHeader}
 use Rattle.xs_grammar.proofs.Coded.{widths, list_all-all, fits-room, fields_whole, packet_coded, writable_everywhere}
-use Rattle.xs_rate.specs.Coefficients.{Rows, rows_of}
+use Rattle.xs_rate.specs.Coefficients.{Rows, rows_of_picture}
 use Rattle.xs_rate.specs.Content.{content_of}
 use Rattle.xs_rate.specs.Encoding.{content_at, slice_at, slices_at, stream_of, encoding_of, with_length, chosen_candidate}
 use Rattle.xs_rate.specs.Encoded.{NoneOver, chosen_content, chosen_stream, stated_header, IsEncoding}
 use Rattle.xs_rate.specs.Laws.{AreSmall}
 use Rattle.xs_rate.proofs.Rows.{small_rows}
-use Rattle.xs_rate.proofs.Fits.{coarsest_fits, joined-stream}
+use Rattle.xs_rate.proofs.Fits.{joined-stream}
+use Rattle.xs_rate.proofs.Headers.{header-size}
 use Rattle.xs_rate.proofs.FirstOver.{first_over_law}
-use Rattle.xs_rate.proofs.Encoded.{line-writable, chosen-finest, encoded_in_grammar}
-use Rattle.xs_rate.proofs.GreySlices.{finest_slices}
+use Rattle.xs_rate.proofs.Encoded.{line-writable, chosen-finest, encoded_in_grammar, every-fits}
 use Rattle.xs_markers.proofs.ReadAgain.{written_built}
 use Rattle.xs_decoding.specs.Built.{IsBuiltHeader, IsBuiltPacket, IsBuiltPrecinct, IsBuiltSlice, IsBuiltStream}
 use Rattle.xs_picture.specs.ReadAgain.{EncodedIsRead}
@@ -66,8 +67,8 @@ coded h content mode place p fits =
 no_modes : ℕ → ℕ → ℕ
 no_modes precinct band = 0
 
-precinct_built : (h : Header) (content : Content) (precinct : ℕ) → h.run_mode ≡ 0 → precinct_fits h content (λ _ _. 0) precinct ≡ true → IsWritablePrecinct h content (λ _ _. 0) precinct
-    → IsBuiltPrecinct h content precinct (precinct_bytes h content (λ _ _. 0) precinct)
+precinct_built : (h : Header) (content : Content) (precinct : ℕ) → h.run_mode ≡ 0 → precinct_fits h content (λ _ _. 0) no_filler precinct ≡ true → IsWritablePrecinct h content (λ _ _. 0) precinct
+    → IsBuiltPrecinct h content precinct (precinct_bytes h content (λ _ _. 0) no_filler precinct)
 precinct_built h content precinct plain fits can = record {
   spelled = record {
     head = field_bytes fields;
@@ -76,14 +77,17 @@ precinct_built h content precinct plain fits can = record {
     mode = λ _. 0;
     room = (size, (can.q, (can.r, modes)));
     headed = spells_packed (bits_of_fields fields) (fields-are fields);
-    filled = (body, [], sym (append-nil body), each-same (IsBuiltPacket h content) (SpellsPacket h content (λ _. 0)) (packets_of h precinct) body (all-spelled (packets_of h precinct)) built);
+    filled = (part, [], refl, each-same (IsBuiltPacket h content) (SpellsPacket h content (λ _. 0)) (packets_of h precinct) part (all-spelled (packets_of h precinct)) built);
   };
   modes = λ band inside. refl;
-  packets = (body, [], sym (append-nil body), built);
+  packets = (part, [], refl, built);
 }
   where
+    part : List ℕ
+    part = packets_bytes h content (λ _ _. 0) precinct
+
     body : List ℕ
-    body = precinct_body h content (λ _ _. 0) precinct
+    body = precinct_body h content (λ _ _. 0) no_filler precinct
 
     fields : List (ℕ × ℕ)
     fields = precinct_fields h content precinct (length body) (λ _. 0)
@@ -94,7 +98,7 @@ precinct_built h content precinct plain fits can = record {
     size : length body < 2 ^ 24
     size = ltb-true (length body) (2 ^ 24) both.1
 
-    modes : HaveRoom (map (λ band. (2, 0)) (upto (bands_of h)))
+    modes : FieldsFit (map (λ band. (2, 0)) (upto (bands_of h)))
     modes = all-of_map (λ (field : ℕ × ℕ). field.1 < 2 ^ field.0) (λ band. (2, 0)) (upto (bands_of h)) (range-all (λ band. 0 < 4) 0 (bands_of h) (λ band low high. omega arith))
 
     all-spelled : (places : List PacketPlace) → AllByRecursion (λ place. (l : List ℕ) → IsBuiltPacket h content place l → SpellsPacket h content (λ _. 0) place l) places
@@ -107,21 +111,21 @@ precinct_built h content precinct plain fits can = record {
         let spelled = packet_coded h content (λ _. 0) place plain fits can in
         record { spelled = spelled; coded = coded h content (λ _. 0) place spelled fits }
 
-    built : SpellsEach (IsBuiltPacket h content) (packets_of h precinct) body
+    built : SpellsEach (IsBuiltPacket h content) (packets_of h precinct) part
     built = each-made (IsBuiltPacket h content) (packet_bytes h content (λ _. 0)) (packets_of h precinct)
         (all-both (λ place. packet_fits h content (λ _. 0) place ≡ true) (λ place. AllByRecursion (λ band. IsWritableLine h content band place.line) (packet_bands h place)) _ (packets_of h precinct)
         (λ place fits can. one place fits can) (list_all-all (packet_fits h content (λ _. 0)) (packets_of h precinct) both.0) can.lines)
 
 -- Slices
 
-pub slice_built : (h : Header) (content : Content) (slice : ℕ) → h.run_mode ≡ 0 → slice < 2 ^ 16 → IsWritable h content (λ _ _. 0) slice → slice_fits h content (λ _ _. 0) slice ≡ true
-    → IsBuiltSlice h content slice (slice_bytes h content (λ _ _. 0) slice)
+pub slice_built : (h : Header) (content : Content) (slice : ℕ) → h.run_mode ≡ 0 → slice < 2 ^ 16 → IsWritable h content (λ _ _. 0) slice → slice_fits h content (λ _ _. 0) no_filler slice ≡ true
+    → IsBuiltSlice h content slice (slice_bytes h content (λ _ _. 0) no_filler slice)
 slice_built h content slice plain index can fits = record {
   spelled = record {
     index = index;
-    body = flat_map (precinct_bytes h content (λ _ _. 0)) (precincts_of h slice);
+    body = flat_map (precinct_bytes h content (λ _ _. 0) no_filler) (precincts_of h slice);
     joined = refl;
-    spelled = each-same (IsBuiltPrecinct h content) (IsPrecinct h content) (precincts_of h slice) (flat_map (precinct_bytes h content (λ _ _. 0)) (precincts_of h slice)) (all-spelled (precincts_of h slice)) built;
+    spelled = each-same (IsBuiltPrecinct h content) (IsPrecinct h content) (precincts_of h slice) (flat_map (precinct_bytes h content (λ _ _. 0) no_filler) (precincts_of h slice)) (all-spelled (precincts_of h slice)) built;
   };
   precincts = built;
 }
@@ -130,10 +134,10 @@ slice_built h content slice plain index can fits = record {
     all-spelled [] = tt
     all-spelled (x ∷ xs) = (λ l built. built.spelled, all-spelled xs)
 
-    built : SpellsEach (IsBuiltPrecinct h content) (precincts_of h slice) (flat_map (precinct_bytes h content (λ _ _. 0)) (precincts_of h slice))
-    built = each-made (IsBuiltPrecinct h content) (precinct_bytes h content (λ _ _. 0)) (precincts_of h slice)
-        (all-both (λ precinct. precinct_fits h content (λ _ _. 0) precinct ≡ true) (IsWritablePrecinct h content (λ _ _. 0)) _ (precincts_of h slice)
-        (λ precinct fits can. precinct_built h content precinct plain fits can) (list_all-all (precinct_fits h content (λ _ _. 0)) (precincts_of h slice) fits) can)
+    built : SpellsEach (IsBuiltPrecinct h content) (precincts_of h slice) (flat_map (precinct_bytes h content (λ _ _. 0) no_filler) (precincts_of h slice))
+    built = each-made (IsBuiltPrecinct h content) (precinct_bytes h content (λ _ _. 0) no_filler) (precincts_of h slice)
+        (all-both (λ precinct. precinct_fits h content (λ _ _. 0) no_filler precinct ≡ true) (IsWritablePrecinct h content (λ _ _. 0)) _ (precincts_of h slice)
+        (λ precinct fits can. precinct_built h content precinct plain fits can) (list_all-all (precinct_fits h content (λ _ _. 0) no_filler) (precincts_of h slice) fits) can)
 
 -- Codestreams
 
@@ -141,7 +145,7 @@ concat_map : {A : Type 0} (f : A → List ℕ) (xs : List A) → concat (map f x
 concat_map f xs = concat_is (map f xs) ∙ flat_map-map (λ l. l) f xs
 
 -- the weights of a header that is spelled have room
-weights_room : (weights : List Weight) → HaveRoom (flat_map (λ (weight : Weight). (8, weight.gain) ∷ (8, weight.priority) ∷ []) weights)
+weights_room : (weights : List Weight) → FieldsFit (flat_map (λ (weight : Weight). (8, weight.gain) ∷ (8, weight.priority) ∷ []) weights)
     → AllByRecursion (λ (weight : Weight). weight.gain < 2 ^ 8) weights × AllByRecursion (λ (weight : Weight). weight.priority < 2 ^ 8) weights
 weights_room [] room = (tt, tt)
 weights_room (weight ∷ weights) room = let others = weights_room weights room.1.1 in ((room.0, others.0), (room.1.0, others.1))
@@ -160,7 +164,7 @@ encoded_is_read s picture stream built range e =
     h = header_of s
 
     rows : Rows
-    rows = rows_of (header_of s) picture
+    rows = rows_of_picture (header_of s) picture
 
     count : ℕ
     count = slice_count (header_of s)
@@ -197,7 +201,7 @@ encoded_is_read s picture stream built range e =
     given = let both = sym e ∙ ok in let same : stream ≡ chosen_stream h rows s.share = cc both in same ∙ chosen
 
     enc : IsEncoding h rows s.share stated
-    enc = subst (IsEncoding h rows s.share) given (encoded_in_grammar s picture stream built range e)
+    enc = subst (IsEncoding h rows s.share) given (encoded_in_grammar s picture stream range e)
 
     small : AreSmall rows
     small band line column = let most = small_rows (header_of s) picture band line column in omega (arith, most)
@@ -212,18 +216,14 @@ encoded_is_read s picture stream built range e =
     size : ℕ
     size = length (header_bytes (header_of s)) + sum_by length (map slice_of (upto count)) + 2
 
-    joined : stream_bytes stated ≡ header_bytes (with_length (header_of s) size) ++ (slices ++ end_marker)
+    joined : stream_bytes stated ≡ header_bytes (with_length (header_of s) size) ++ (slices ++ eoc)
     joined = joined-stream stated
-
-    lengths : (lcod : ℕ) → length (header_bytes (with_length h lcod)) ≡ 44 + 2 * bands_of h
-    lengths = (finest_slices s rows built range small).header
 
     states : total ≡ size
     states =
         let sum : length slices ≡ sum_by length (map slice_of (upto count)) = ap length (concat_is (map slice_of (upto count))) ∙ length-flat_map (λ l. l) (map slice_of (upto count)) in
-        let first : length (header_bytes (with_length h size)) ≡ 44 + 2 * bands_of h = lengths size in
-        let blank : length (header_bytes h) ≡ 44 + 2 * bands_of h = lengths 0 in
-        omega (arith, ap length joined, length-append (header_bytes (with_length h size)) (slices ++ end_marker), length-append slices end_marker, sum, first, blank)
+        let first : length (header_bytes (with_length h size)) ≡ length (header_bytes h) = header-size s range size ∙ sym (header-size s range 0) in
+        omega (arith, ap length joined, length-append (header_bytes (with_length h size)) (slices ++ eoc), length-append slices eoc, sum, first)
 
     headed : IsBuiltHeader H (header_bytes H)
     headed = written_built H enc.whole.headed.accepted (header_room H enc.whole.header enc.whole.headed)
@@ -231,10 +231,10 @@ encoded_is_read s picture stream built range e =
 
     one : (slice : ℕ) → slice < count → IsBuiltSlice H content slice (slice_of slice)
     one slice inside =
-        let few = enc.whole.headed.accepted.slices in
+        let few = enc.whole.headed.accepted.geometry.slices in
         slice_built H content slice refl (omega (arith, inside, few))
         (writable_everywhere H content (λ _ _. 0) slice (λ precinct. (omega arith, omega arith)) (λ precinct band. omega arith) (line-writable H rows (λ _. finest) small))
-        (coarsest_fits s rows slice built range small)
+        (every-fits s rows slice finest range)
 
     all-spelled : (xs : List ℕ) → AllByRecursion (λ x. (l : List ℕ) → IsBuiltSlice H content x l → IsSlice H content x l) xs
     all-spelled [] = tt
@@ -249,7 +249,7 @@ encoded_is_read s picture stream built range e =
       spelled = record {
         header = header_bytes H;
         slices = slices;
-        joined = joined ∙ ap (λ n. header_bytes (with_length h n) ++ (slices ++ end_marker)) (sym states);
+        joined = joined ∙ ap (λ n. header_bytes (with_length h n) ++ (slices ++ eoc)) (sym states);
         headed = headed.spelled;
         spelled = each-same (IsBuiltSlice H content) (IsSlice H content) (upto count) slices (all-spelled (upto count)) spelled;
         stated = inr refl;

@@ -14,24 +14,20 @@ use Rattle.xs_params.specs.declared.settings.Settings.{Settings}
 use Rattle.xs_params.specs.Check.{AreInRange}
 use Rattle.xs_params.specs.Headers.{header_of}
 use Rattle.xs_params.specs.Picture.{Picture}
-use Rattle.xs_grammar.specs.Geometry.{precinct_count}
+use Rattle.xs_params.specs.Geometry.{precinct_count}
 use Rattle.xs_grammar.specs.Slice.{slice_head}
+use Rattle.xs_grammar.specs.Coded.{no_filler}
 use Rattle.xs_grammar.proofs.Sizes.{slice_are}
 use Rattle.xs_rate.specs.Built.{mode_of}
-use Rattle.xs_rate.specs.Coefficients.{rows_of}
+use Rattle.xs_rate.specs.Coefficients.{rows_of_picture}
 use Rattle.xs_rate.specs.Encoding.{IsBuilt, slice_at, content_at}
-use Rattle.xs_rate.specs.Laws.{AreSmall, IsNarrow}
+use Rattle.xs_rate.specs.Laws.{AreSmall}
 use Rattle.xs_rate.specs.WrittenOut.{AreFinestSlices, finest_precinct}
-use Rattle.xs_rate.proofs.GreySlices.{finest_slices}
-use Rattle.xs_rate.proofs.Narrow.{grey_is_narrow}
+use Rattle.xs_rate.proofs.FinestSlices.{finest_slices}
 use Rattle.xs_rate.proofs.Rows.{small_rows}
 
-pub small : (s : Settings) (picture : Picture) → AreSmall (rows_of (header_of s) picture)
+pub small : (s : Settings) (picture : Picture) → AreSmall (rows_of_picture (header_of s) picture)
 small s picture band line column = let most = small_rows (header_of s) picture band line column in omega (arith, most)
-
--- the packets of what is built have few code groups
-pub narrow : (s : Settings) → IsBuilt s → AreInRange s → IsNarrow (header_of s)
-narrow s built range = grey_is_narrow (header_of s) built.format range.shape.most_width range.across (omega (arith, range.down))
 
 -- The head of a slice
 
@@ -79,12 +75,12 @@ all_gone first end at begin stop starts stops some within past =
 
 -- all precincts of a slice make up its bytes
 pub slice_whole : (s : Settings) (picture : Picture) (slice first count : ℕ) (bytes : List ℕ) → IsBuilt s → AreInRange s → first ≡ slice * s.hsl → count ≡ min ((slice + 1) * s.hsl) (precinct_count (header_of s)) - slice * s.hsl
-    → AreBytes bytes → bits_of_bytes bytes ≡ bits_of_bytes (slice_head slice ++ flat_map (finest_precinct (header_of s) (rows_of (header_of s) picture)) (range_with_len first count))
-    → bytes ≡ slice_at (header_of s) (rows_of (header_of s) picture) slice finest
+    → AreBytes bytes → bits_of_bytes bytes ≡ bits_of_bytes (slice_head slice ++ flat_map (finest_precinct (header_of s) (rows_of_picture (header_of s) picture)) (range_with_len first count))
+    → bytes ≡ slice_at (header_of s) (rows_of_picture (header_of s) picture) slice finest
 slice_whole s picture slice first count bytes built range begins size are here =
     let h = header_of s in
-    let rows = rows_of h picture in
+    let rows = rows_of_picture h picture in
     let known : AreFinestSlices h rows = finest_slices s rows built range (small s picture) in
     let listed = known.bytes slice
     ∙ ap (λ n. slice_head slice ++ flat_map (finest_precinct h rows) (range_with_len (slice * s.hsl) n)) (sym size) ∙ ap (λ n. slice_head slice ++ flat_map (finest_precinct h rows) (range_with_len n count)) (sym begins) in
-    bytes_by_bits bytes (slice_at h rows slice finest) are (slice_are h (content_at h rows finest) (mode_of h (content_at h rows finest)) slice) (here ∙ ap bits_of_bytes (sym listed))
+    bytes_by_bits bytes (slice_at h rows slice finest) are (slice_are h (content_at h rows finest) (mode_of h (content_at h rows finest)) no_filler slice) (here ∙ ap bits_of_bytes (sym listed))

@@ -12,15 +12,15 @@ use Rattle.xs_lists.proofs.Each.{each-more, each-same, range-all, range-more}
 use Rattle.xs_params.specs.declared.header.Header.{Header}
 use Rattle.xs_signal.specs.Lines.{entries_of}
 use Rattle.xs_signal.specs.Quantiser.{dequantised}
-use Rattle.xs_grammar.specs.Geometry.{bands_of, band_height_of, band_type_of, band_width_of, precinct_count, precinct_lines, precincts_of}
-use Rattle.xs_grammar.specs.Header.{IsAccepted}
+use Rattle.xs_params.specs.Geometry.{bands_of, band_height_of, band_type_of, band_width_of, precinct_count, precinct_lines, precincts_of}
+use Rattle.xs_params.specs.Accepted.{IsAccepted}
 use Rattle.xs_grammar.specs.Precinct.{Content, IsPrecinct, line_truncation, precinct_of}
 use Rattle.xs_grammar.proofs.OneSlice.{truncation_at}
 use Rattle.xs_geometry.specs.SliceLines.{BandLines, row_at, slice_height, AreLinesOf}
 use Rattle.xs_decoding.specs.Dequantised.{dequantised_rows}
 use Rattle.xs_decoding.specs.Built.{IsBuiltPrecinct, IsBuiltSlice}
-use Rattle.xs_decoding.specs.Laws.{AgreeOnPrecinct}
-use Rattle.xs_decoding.proofs.Precincts.{precinct_is_local}
+use Rattle.xs_decoding.proofs.Packets.{AgreeOnPrecinct}
+use Rattle.xs_decoding.proofs.Precincts.{built_is_local}
 use Rattle.xs_slice_read.specs.Slice.{IsSliceRead}
 use Rattle.xs_picture.specs.Coefs.{rows_of_slices}
 use Rattle.xs_picture.specs.StreamRead.{AreSlicesRead}
@@ -75,7 +75,7 @@ pub precincts_move : (h : Header) (content other : Content) (slice : ℕ) → h.
     → AllByRecursion (λ k. (l : List ℕ) → IsBuiltPrecinct h content k l → IsBuiltPrecinct h other k l) (precincts_of h slice)
 precincts_move h content other slice deep same =
     each_precinct h (λ k. (l : List ℕ) → IsBuiltPrecinct h content k l → IsBuiltPrecinct h other k l) slice
-    (λ precinct from to l built. precinct_is_local h content other precinct l deep (same precinct from to) built)
+    (λ precinct from to l built. built_is_local h content other precinct l deep (same precinct from to) built)
 
 all_spelled : (h : Header) (content : Content) (xs : List ℕ) → AllByRecursion (λ x. (l : List ℕ) → IsBuiltPrecinct h content x l → IsPrecinct h content x l) xs
 all_spelled h content [] = tt
@@ -174,7 +174,7 @@ more_read h slice slices rows bytes rest n accepted so read = record {
     now = merged h first so.content read.content
 
     deep : h.nly ≤ h.nlx
-    deep = omega (arith, accepted.nly)
+    deep = omega (arith, accepted.geometry.nly)
 
     order : upto (slice + 1) ≡ upto slice ++ (slice ∷ [])
     order = let here : 0 + slice ≡ slice = omega arith in range-more 0 slice ∙ ap (λ k. range_with_len 0 slice ++ (k ∷ [])) here

@@ -13,10 +13,12 @@ use Rattle.xs_lists.proofs.Each.{each-agree, each-same, each-split, range-all}
 use Rattle.xs_layout.specs.Geometry.{ceil_div}
 use Rattle.xs_params.specs.declared.header.Header.{Header}
 use Rattle.xs_params.specs.Picture.{Picture}
-use Rattle.xs_grammar.specs.Geometry.{precinct_count, slice_count}
+use Rattle.xs_params.specs.Geometry.{precinct_count, slice_count}
 use Rattle.xs_grammar.specs.Precinct.{Content}
-use Rattle.xs_grammar.specs.Slice.{slh, eoc, IsSlice, slice_head}
-use Rattle.xs_grammar.specs.Header.{IsAccepted, IsHeader, IsHeaderFront}
+use Rattle.xs_grammar.specs.Slice.{IsSlice, slice_head}
+use Rattle.xs_params.specs.Markers.{slh, eoc}
+use Rattle.xs_grammar.specs.Header.{IsHeader, IsHeaderFront}
+use Rattle.xs_params.specs.Accepted.{IsAccepted}
 use Rattle.xs_grammar.specs.Codestream.{IsCodestream}
 use Rattle.xs_grammar.specs.Laws.{FollowsHeader}
 use Rattle.xs_grammar.proofs.OneHeader.{one_header}
@@ -112,8 +114,8 @@ ceil_some n d some size = at (cases_eq (ceil_div n d) 0)
 
 slices_some : (h : Header) → IsAccepted h → 0 < slice_count h
 slices_some h accepted =
-    let height : 0 < h.shape.height = omega (arith, accepted.height) in
-    ceil_some (precinct_count h) h.hsl (ceil_some h.shape.height (2 ^ h.nly) height (pow_pos h.nly)) accepted.hsl
+    let height : 0 < h.shape.height = omega (arith, accepted.geometry.shape.height) in
+    ceil_some (precinct_count h) h.hsl (ceil_some h.shape.height (2 ^ h.nly) height (pow_pos h.nly)) accepted.geometry.hsl
 
 -- slices begin with a slice's marker
 pub slices_begin : (h : Header) (content : Content) (n : ℕ) (slices rest : List ℕ) → 0 < n → SpellsEach (IsSlice h content) (upto n) slices → BeginsWith (slices ++ rest) slh
@@ -207,7 +209,7 @@ slices_agree h content other count a b y z below p q e =
     (λ slice _ _ a b y z p q e. ((one_slice h content other slice a b y z below p.spelled q.spelled e).0, tt))) a b y z p q e).0
 
 pub below_of : (h : Header) → IsAccepted h → h.nly ≤ h.nlx
-below_of h accepted = let least = accepted.nly in omega (arith, least)
+below_of h accepted = let least = accepted.geometry.nly in omega (arith, least)
 
 range_split : (first n m : ℕ) → range_with_len first (n + m) ≡ range_with_len first n ++ range_with_len (first + n) m
 range_split first zero m = let a : 0 + m ≡ m = omega arith in let b : first ≡ first + 0 = omega arith in ap (range_with_len first) a ∙ ap (λ k. range_with_len k m) b

@@ -11,8 +11,8 @@ use Rattle.xs_faults.specs.declared.PrecinctFault.TheVariants as precinct_fault
 use Rattle.xs_faults.specs.declared.SliceFault.{SliceFault}
 use Rattle.xs_faults.specs.declared.SliceFault.TheVariants as fault
 use Rattle.xs_faults.specs.declared.StreamFault.TheVariants as stream
-use Rattle.xs_grammar.specs.Geometry.{precincts_of, slice_count}
-use Rattle.xs_grammar.specs.Header.{IsAccepted}
+use Rattle.xs_params.specs.Geometry.{precincts_of, slice_count}
+use Rattle.xs_params.specs.Accepted.{IsAccepted}
 use Rattle.xs_grammar.specs.Precinct.{Content}
 use Rattle.xs_grammar.specs.Slice.{slice_head}
 use Rattle.xs_geometry.specs.SliceLines.{BandLines}
@@ -33,7 +33,7 @@ all_front P (x ∷ xs) ys h = (h.0, all_front P xs ys h.1)
 pub no_built_slice : (h : Header) (content : Content) (slice precinct packet : ℕ) (rest part more : List ℕ) → IsAccepted h → HasBuiltValues h → IsUnbuiltIn h slice rest precinct packet → rest ≡ part ++ more
     → IsBuiltSlice h content slice part → ⊥
 no_built_slice h content slice precinct packet rest part more accepted values u e built =
-    built_is_built h content precinct packet b.0 (b.1 ++ more) accepted values.runs values.signs b.3 (subst (λ l. IsUnbuilt h precinct l packet) tail u.unbuilt)
+    built_is_built h content precinct packet b.0 (b.1 ++ more) accepted values.runs values.signs b.3 (subst (λ l. IsUnbuilt h precinct l packet) tail u.stopped)
   where
     body : List ℕ
     body = built.spelled.body
@@ -89,7 +89,7 @@ module _ (h : Header) (bytes rest : List ℕ) (start slice : ℕ) (slices : List
     later = u.later;
     order = u.order;
     spelled = each-same (IsBuiltPrecinct h u.content) (IsBuiltPrecinct h now) u.earlier u.precincts (all_front Moves u.earlier (precinct ∷ u.later) (subst (AllByRecursion Moves) u.order moves)) u.spelled;
-    unbuilt = u.unbuilt;
+    unbuilt = u.stopped;
   }
     where
       now : Content
@@ -106,7 +106,7 @@ module _ (h : Header) (bytes rest : List ℕ) (start slice : ℕ) (slices : List
       → IsStreamRefusal bytes (stream.Slice slice f)
   slice_refused fault.Short head there so none named = no_slice h bytes rest start slice slices head there so none.1
   slice_refused fault.Head head there so none named = no_slice h bytes rest start slice slices head there so none
-  slice_refused (fault.Precinct precinct precinct_fault.Truncated) head there so none named = no_slice h bytes rest start slice slices head there so none
+  slice_refused (fault.Precinct precinct precinct_fault.Truncated) head there so none named = no_slice h bytes rest start slice slices head there so none.0
   slice_refused (fault.Precinct precinct (precinct_fault.Overrun packet part)) head there so none named = no_slice h bytes rest start slice slices head there so none
   slice_refused (fault.Precinct precinct (precinct_fault.Count packet value)) head there so none named = no_slice h bytes rest start slice slices head there so none
   slice_refused (fault.Precinct precinct (precinct_fault.Unbuilt packet)) head there so u named = (none_unbuilt precinct packet head there so u, unbuilt_at precinct packet head there so u)

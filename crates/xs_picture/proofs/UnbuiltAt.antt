@@ -12,16 +12,18 @@ use Rattle.xs_faults.specs.declared.HeadFault.TheVariants as head_fault
 use Rattle.xs_faults.specs.declared.PrecinctFault.TheVariants as precinct_fault
 use Rattle.xs_faults.specs.declared.SliceFault.{SliceFault}
 use Rattle.xs_faults.specs.declared.SliceFault.TheVariants as fault
-use Rattle.xs_grammar.specs.Geometry.{slice_count}
-use Rattle.xs_grammar.specs.Header.{IsAccepted, IsHeaderFront}
+use Rattle.xs_params.specs.Geometry.{slice_count}
+use Rattle.xs_grammar.specs.Header.{IsHeaderFront}
+use Rattle.xs_params.specs.Accepted.{IsAccepted}
 use Rattle.xs_grammar.specs.Laws.{FollowsHeader}
 use Rattle.xs_grammar.specs.Precinct.{Content}
-use Rattle.xs_grammar.specs.Slice.{eoc, slh, slice_head, IsSlice}
+use Rattle.xs_grammar.specs.Slice.{slice_head, IsSlice}
+use Rattle.xs_params.specs.Markers.{eoc, slh}
 use Rattle.xs_grammar.proofs.OneHeader.{one_header}
 use Rattle.xs_geometry.specs.SliceLines.{BandLines}
 use Rattle.xs_decoding.specs.Built.{HasBuiltValues, HasNoBuiltFront, IsBuiltHeader, IsBuiltSlice, IsUnbuiltAt}
 use Rattle.xs_slice_read.specs.Slice.{IsUnbuiltIn, IsSliceRefusal}
-use Rattle.xs_slice_read.proofs.UnbuiltIn.{three, one_unbuilt_in}
+use Rattle.xs_slice_read.proofs.StoppedIn.{three, one_unbuilt_in}
 use Rattle.xs_picture.specs.StreamRead.{IsHeaderRead, AreSlicesRead}
 use Rattle.xs_picture.proofs.StreamsRead.{HasTail, tail_of, all_slices, below_of, slices_agree, slices_begin, slices_cut}
 use Rattle.xs_picture.proofs.Unbuilt.{no_built_slice}
@@ -108,7 +110,7 @@ has_unbuilt h bytes start slice precinct packet head u = record {
     later = u.later;
     order = u.order;
     spelled = u.spelled;
-    unbuilt = u.unbuilt;
+    stopped = u.unbuilt;
   });
 }
   where
@@ -210,7 +212,7 @@ module _ (h : Header) (bytes : List ℕ) (slice target precinct packet : ℕ) (r
       cases : (f : SliceFault) → IsSliceRefusal h slice rest f → f ≡ fault.Memory
       cases fault.Short none = absurd (none.1 u.content here.0 here.1 here.2 here.3)
       cases fault.Head none = absurd (none u.content here.0 here.1 here.2 here.3)
-      cases (fault.Precinct number precinct_fault.Truncated) none = absurd (none u.content here.0 here.1 here.2 here.3)
+      cases (fault.Precinct number precinct_fault.Truncated) none = absurd (none.0 u.content here.0 here.1 here.2 here.3)
       cases (fault.Precinct number (precinct_fault.Overrun k part)) none = absurd (none u.content here.0 here.1 here.2 here.3)
       cases (fault.Precinct number (precinct_fault.Count k value)) none = absurd (none u.content here.0 here.1 here.2 here.3)
       cases (fault.Precinct number (precinct_fault.Unbuilt k)) none = absurd (here_built number k less none)

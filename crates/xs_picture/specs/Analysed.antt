@@ -24,11 +24,11 @@ pub record AreBandsOf (h : Header) (picture : Picture) (planes : List (List (Lis
 abbrev pub band_of : List (List (List ℤ)) → ℕ → ℕ → ℕ → ℤ
 band_of planes band = plane_of (slice_index_or planes band [])
 
--- the coefficients that the planes stand for, cut at the bands' widths
-abbrev pub folded_rows : Header → List (List (List ℤ)) → Rows
-folded_rows h planes = padded h (λ band line column. fold 8 (band_of planes band line column))
+-- the coefficients that the planes stand for, with so many bits rounded away, cut at the bands' widths
+abbrev pub folded_rows : Header → ℕ → List (List (List ℤ)) → Rows
+folded_rows h fq planes = padded h (λ band line column. fold fq (band_of planes band line column))
 
 -- the row is a line, folded, and 0 past it
-pub record IsFolded (line row : List ℤ) : Type 0 where
-  pub within : (k : ℕ) → k < length line → entries_of row k ≡ fold 8 (entries_of line k)
+pub record IsFolded (fq : ℕ) (line row : List ℤ) : Type 0 where
+  pub within : (k : ℕ) → k < length line → entries_of row k ≡ fold fq (entries_of line k)
   pub past : (k : ℕ) → length line ≤ k → entries_of row k ≡ pos 0

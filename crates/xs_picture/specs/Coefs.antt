@@ -2,8 +2,8 @@
 use Rattle.std.specs.Prelude.{◌≡◌, ℕ, ◌/◌, ◌<◌, List, [], length, slice_index_or}
 use Rattle.xs_params.specs.declared.header.Header.{Header}
 use Rattle.xs_signal.specs.Lines.{entries_of}
-use Rattle.xs_grammar.specs.Geometry.{slice_count}
-use Rattle.xs_grammar.specs.Header.{IsAccepted}
+use Rattle.xs_params.specs.Geometry.{slice_count}
+use Rattle.xs_params.specs.Accepted.{IsAccepted}
 use Rattle.xs_rate.specs.Coefficients.{Rows}
 use Rattle.xs_geometry.specs.SliceLines.{BandLines, row_at, slice_height, AreLinesOf}
 

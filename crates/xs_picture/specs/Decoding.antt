@@ -7,7 +7,7 @@ use Rattle.xs_signal.specs.Colour.{unrct}
 use Rattle.xs_signal.specs.Picture.{each_entry, synthesised, uncoloured, one_of}
 use Rattle.xs_signal.specs.Samples.{scale_out}
 use Rattle.xs_signal.specs.Wavelet.{Split, Bands}
-use Rattle.xs_grammar.specs.Geometry.{band_width_of, band_height_of, component_width}
+use Rattle.xs_params.specs.Geometry.{band_width_of, band_height_of, component_width}
 use Rattle.xs_rate.specs.Coefficients.{signal_of}
 use Rattle.xs_wave.specs.Within.{SameWithin}
 use Rattle.xs_wave.specs.Planes.{plane_of, HasSize, IsSmall}
@@ -18,12 +18,12 @@ use Rattle.xs_picture.specs.Coefs.{Coefs, rows_of_slices}
 -- Bands
 
 -- a coefficient at full precision
-abbrev pub raised : Header → ℤ → ℤ
-raised h z = z *ℤ pos (2 ^ h.fq)
+abbrev pub raised_to : Header → ℤ → ℤ
+raised_to h z = z *ℤ pos (2 ^ h.fq)
 
 -- the coefficients of a band at full precision
 abbrev pub raised_band : Coefs → ℕ → ℕ → ℕ → ℤ
-raised_band c band line column = raised c.header (rows_of_slices c.header c.slices band line column)
+raised_band c band line column = raised_to c.header (rows_of_slices c.header c.slices band line column)
 
 -- more than the magnitude of 32 bits at full precision
 abbrev pub coefficient_bound : ℕ
@@ -48,7 +48,7 @@ pub record AreComponentBands (c : Coefs) (component : ℕ) (planes : List (List 
 
 -- the bands of a component at full precision
 abbrev pub raised_bands : Coefs → ℕ → Bands
-raised_bands c component = each_entry (raised c.header) (component_bands c.header (rows_of_slices c.header c.slices) component)
+raised_bands c component = each_entry (raised_to c.header) (component_bands c.header (rows_of_slices c.header c.slices) component)
 
 -- the numbers of each component before colour is turned back
 abbrev pub joined_planes : Coefs → ℕ → ℕ → ℕ → ℤ

@@ -4,7 +4,7 @@ use Rattle.std.specs.declared.alloc.Global.{Global}
 use Rattle.xs_layout.specs.Geometry.{groups_of}
 use Rattle.xs_params.specs.declared.header.Header.{Header}
 use Rattle.xs_signal.specs.Lines.{entries_of}
-use Rattle.xs_grammar.specs.Geometry.{bands_of, band_width_of, lines_of, precinct_lines}
+use Rattle.xs_params.specs.Geometry.{bands_of, band_width_of, lines_of, precinct_lines}
 use Rattle.xs_geometry.specs.Lines.{IsLineOf}
 use Rattle.xs_rate.specs.Coefficients.{Rows}
 
@@ -22,12 +22,12 @@ abbrev pub contents : List (Vec (List ℤ) Global) → List (List (List ℤ))
 contents bands = map (λ rows. rows.items) bands
 
 -- so many rows of so many code groups
-pub record AreBlank (groups count : ℕ) (rows : List (List ℤ)) : Type 0 where
+pub record AreRoomyRows (groups count : ℕ) (rows : List (List ℤ)) : Type 0 where
   pub lines : length rows ≡ count
   pub wide : (number : ℕ) → number < count → length (slice_index_or rows number []) ≡ 4 * groups
 
 -- as many rows for each band as a precinct has lines of it that is not cut, each with the band's code groups
-pub record HaveRoom (h : Header) (rows : List (List (List ℤ))) : Type 0 where
+pub record HasRows (h : Header) (rows : List (List (List ℤ))) : Type 0 where
   pub count : length rows ≡ bands_of h
   pub lines : (band : ℕ) → band < bands_of h → length (slice_index_or rows band []) ≡ precinct_lines h band
   pub groups : (band number : ℕ) → band < bands_of h → number < precinct_lines h band → length (row_in rows band number) ≡ 4 * groups_of (band_width_of h band)

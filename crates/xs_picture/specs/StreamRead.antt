@@ -2,9 +2,9 @@
 use Rattle.std.specs.Prelude.{◌≡◌, ℕ, ◌/◌, ◌<◌, ◌≤◌, ◌⊎◌, List, [], ◌++◌, length, take, drop, slice_index_or}
 use Rattle.xs_lists.specs.Spelling.{upto, BeginsWith, SpellsEach}
 use Rattle.xs_params.specs.declared.header.Header.{Header}
-use Rattle.xs_grammar.specs.Geometry.{bands_of, band_height_of}
+use Rattle.xs_params.specs.Geometry.{bands_of, band_height_of}
 use Rattle.xs_grammar.specs.Precinct.{Content}
-use Rattle.xs_grammar.specs.Slice.{slh}
+use Rattle.xs_params.specs.Markers.{slh}
 use Rattle.xs_geometry.specs.SliceLines.{BandLines, slice_height, AreLinesOf}
 use Rattle.xs_decoding.specs.Dequantised.{dequantised_rows}
 use Rattle.xs_decoding.specs.Built.{IsBuiltHeader, IsBuiltSlice, IsBuiltFront}

@@ -3,9 +3,8 @@ ghost use Rattle.std.specs.Prelude.{◌≡◌, ◌≢◌, ℕ, ◌+◌, ◌*◌,
 ghost use Rattle.xs_layout.specs.Geometry.{components_of};
 ghost use Rattle.xs_signal.specs.Fold.{IsFraction};
 ghost use Rattle.xs_signal.specs.Lines.{AllBelow, IsBelow, entries_of};
-ghost use Rattle.xs_grammar.specs.Geometry.{bands_of, band_component, band_type_of, band_height_of, band_width_of};
+ghost use Rattle.xs_params.specs.Geometry.{bands_of, band_component, band_type_of, band_height_of, band_width_of, geometry_of};
 ghost use Rattle.xs_geometry.specs.SliceLines.{HasLine, row_at, slice_height};
-ghost use Rattle.xs_geometry.specs.Kept.{geometry_of};
 ghost use Rattle.xs_geometry.specs.Sides.{type_of};
 ghost use Rattle.xs_wave.specs.Planes.{HasSize, IsWide, plane_of};
 ghost use Rattle.xs_wave.specs.Bands.{AreBandPlanes, HasBandSize, band_count};

@@ -1,5 +1,5 @@
 //! The coefficients of a codestream.
-ghost use Rattle.std.specs.Prelude.{◌≡◌, ◌<◌, ◌++◌, ◌∷◌, [], length, IfOk, slice_index_or};
+ghost use Rattle.std.specs.Prelude.{◌≡◌, ◌<◌, ◌++◌, ◌∷◌, [], length, IfOk, OnErr, slice_index_or};
 
 use std::alloc::Global;
 use std::marker::Model;
@@ -34,10 +34,11 @@ impl StreamCoefs {
         }
     }
 
-    /// Adds the next slice.
+    /// Adds the next slice. Where memory is wanting nothing changes.
     pub fn push(&mut self, slice: SliceRows) -> Result<(), Memory>
         ensures header { self.new.header ≡ self.old.header }
         ensures added { IfOk result (λ _. self.new.slices ≡ self.old.slices ++ slice ∷ []) }
+        ensures refused { OnErr result (self.new ≡ self.old) }
     {
         self.slices.push(slice).map_err(|_| Memory)
     }

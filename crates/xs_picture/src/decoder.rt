@@ -13,7 +13,7 @@ use crate::band_planes::{component_plane, components};
 use crate::coefs::StreamCoefs;
 use crate::colours::turn_planes;
 use crate::reader::read_stream;
-use crate::samples::put_plane;
+use crate::samples::{known_picture, put_plane};
 use std::alloc::Global;
 use xs_faults::{PrecinctFault, SliceFault, StreamFault};
 use xs_io::Memory;
@@ -28,10 +28,8 @@ pub fn decode_picture(alloc: Global, bytes: &[u8]) -> Result<(Planes, usize), St
     ensures unbuilt { (slice precinct packet : ℕ) → IsUnbuiltAt bytes.now slice precinct packet → (result ≡ Err (StreamFault.Slice slice (SliceFault.Precinct precinct (PrecinctFault.Unbuilt packet)))) ⊎ (result ≡ Err StreamFault.Memory) }
 {
     let (coefs, size) = read_stream(alloc, bytes)?;
-    match decode_coefs(alloc, &coefs) {
-        Ok(picture) => Ok((picture, size)),
-        Err(Memory) => Err(StreamFault::Memory),
-    }
+    let picture = decode_coefs(alloc, &coefs)?;
+    Ok((picture, size))
 }
 
 /// The picture of coefficients, whatever header they have.
@@ -46,7 +44,7 @@ pub fn decode_coefs(alloc: Global, coefs: &StreamCoefs) -> Result<Planes, Memory
     } else {
         put_components(alloc, coefs, &mut picture)?;
     }
-    let _shape = picture.shape();
+    known_picture(&picture);
     Ok(picture)
 }
 

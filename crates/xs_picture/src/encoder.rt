@@ -1,15 +1,15 @@
 //! Whole pictures.
-ghost use Rattle.std.specs.Prelude.{◌≡◌, ⊤, ℕ, ◌<◌, ◌≤◌, ◌++◌, ◌∷◌, [], IfOk, IfErr, OnOk, MatchResult, All, length, sum_by};
+ghost use Rattle.std.specs.Prelude.{◌≡◌, ⊤, ℕ, ◌+◌, ◌<◌, ◌≤◌, ◌++◌, ◌∷◌, [], IfOk, IfErr, OnOk, MatchResult, length, sum_by};
 ghost use Rattle.xs_layout.specs.Candidates.{finest};
+ghost use Rattle.xs_layout.specs.Limits.{header_room, most_slices, most_stream};
+ghost use Rattle.xs_params.specs.Check.{AreInRange};
 ghost use Rattle.xs_params.specs.Headers.{header_of};
 ghost use Rattle.xs_params.specs.Picture.{Picture};
-ghost use Rattle.xs_grammar.specs.Geometry.{slice_count};
-ghost use Rattle.xs_geometry.specs.Kept.{geometry_of};
-ghost use Rattle.xs_rate.specs.Coefficients.{rows_of};
-ghost use Rattle.xs_rate.specs.Encoding.{IsBuilt, encoding_of, slice_at, slices_at, stream_of};
-ghost use Rattle.xs_rate.specs.Encoded.{NoneOver};
+ghost use Rattle.xs_params.specs.Geometry.{slice_count, geometry_of};
+ghost use Rattle.xs_rate.specs.Coefficients.{rows_of_picture};
+ghost use Rattle.xs_rate.specs.Encoding.{IsBuilt, encoding_of, slice_at, stream_of};
 ghost use Rattle.xs_picture.specs.Analysed.{AreBandsOf, AreGreyPlanes};
-ghost use Rattle.xs_picture.specs.Encoded.{IsEncoding, IsOver, IsRefusal};
+ghost use Rattle.xs_picture.specs.Encoded.{AreSlicesOf, IsEncodingOrMemory, IsOver, IsRefusal};
 
 use crate::analysis::component_bands;
 use crate::precinct_rows::PrecinctRows;
@@ -22,7 +22,7 @@ use xs_params::{Checked, Planes, Stream};
 use xs_wave::BandPlanes;
 
 /// The codestream of a picture, or the first slice that is over its share at the coarsest candidate. What is built is said
-/// by `IsBuilt`: grey pictures of 8 bits.
+/// by `IsBuilt`: grey pictures of 8 bits, at either precision.
 pub fn encode_picture(
     alloc: Global,
     planes: &Planes,
@@ -30,16 +30,11 @@ pub fn encode_picture(
 ) -> Result<Stream, SliceRefusal>
     requires shape { planes.now.shape ≡ settings.now.shape }
     requires built { IsBuilt settings.now }
-    ensures encoding { IsEncoding (encoding_of settings.now planes.now) result }
+    ensures encoding { IsEncodingOrMemory (encoding_of settings.now planes.now) result }
 {
-    let slices = match encode_slices(alloc, planes, settings) {
-        Ok(slices) => slices,
-        Err(refusal) => return Err(refusal),
-    };
-    match join(alloc, settings, slices) {
-        Ok(stream) => Ok(stream),
-        Err(Memory) => Err(SliceRefusal::Memory),
-    }
+    let slices = encode_slices(alloc, planes, settings)?;
+    let stream = join(alloc, settings, slices)?;
+    Ok(stream)
 }
 
 // The slices of a picture, or the first that is over its share.
@@ -50,24 +45,14 @@ fn encode_slices(
 ) -> Result<Vec<Octets>, SliceRefusal>
     requires shape { planes.now.shape ≡ settings.now.shape }
     requires built { IsBuilt settings.now }
-    ensures slices { IfOk result (λ slices. slices.items ≡ slices_at (header_of settings.now) (rows_of (header_of settings.now) planes.now) (λ _. finest)) }
-    ensures within { IfOk result (λ _. NoneOver (header_of settings.now) (rows_of (header_of settings.now) planes.now) settings.now.share) }
-    ensures few { IfOk result (λ slices. length slices.items ≤ 2047) }
-    ensures small { IfOk result (λ slices. All (λ slice. length slice ≤ 524286) slices.items) }
-    ensures refused { MatchResult result (λ _. ⊤) (IsRefusal (header_of settings.now) (rows_of (header_of settings.now) planes.now) settings.now.share) }
+    ensures slices { IfOk result (λ slices. AreSlicesOf settings.now planes.now slices.items) }
+    ensures refused { MatchResult result (λ _. ⊤) (IsRefusal (header_of settings.now) (rows_of_picture (header_of settings.now) planes.now) settings.now.share) }
 {
-    let _asked = settings.settings();
-    let (bands, mut rows) = match split(alloc, planes, settings) {
-        Ok(split) => split,
-        Err(Memory) => return Err(SliceRefusal::Memory),
-    };
+    let (bands, mut rows) = split(alloc, planes, settings)?;
     let count = rows.layout().slices();
     let mut slices = Vec::new(alloc);
     'slices: for slice in 0..count {
-        let bytes = match encode_within(alloc, settings, &bands, slice, &mut rows) {
-            Ok(bytes) => bytes,
-            Err(refusal) => return Err(refusal),
-        };
+        let bytes = encode_within(alloc, settings, &bands, slice, &mut rows)?;
         add(&mut slices, bytes)?;
     }
     Ok(slices)
@@ -81,10 +66,10 @@ fn split(
 ) -> Result<(BandPlanes, PrecinctRows), Memory>
     requires shape { planes.now.shape ≡ settings.now.shape }
     requires built { IsBuilt settings.now }
+    ensures in_range { AreInRange settings.now }
     ensures bands { IfOk result (λ split. AreBandsOf (header_of settings.now) planes.now split.0) }
     ensures layout { IfOk result (λ split. split.1.layout ≡ geometry_of (header_of settings.now)) }
 {
-    let _asked = settings.settings();
     let header = settings.header(alloc)?;
     let bands = component_bands(alloc, planes, &header)?;
     let rows = PrecinctRows::blank(alloc, &header)?;
@@ -92,14 +77,10 @@ fn split(
 }
 
 // One more slice.
-fn add(slices: &mut Vec<Octets>, slice: Octets) -> Result<(), SliceRefusal>
+fn add(slices: &mut Vec<Octets>, slice: Octets) -> Result<(), Memory>
     ensures added { OnOk result (slices.new.items ≡ slices.old.items ++ slice ∷ []) }
-    ensures memory { IfErr result (λ refusal. refusal ≡ SliceRefusal.Memory) }
 {
-    match slices.push(slice) {
-        Ok(()) => Ok(()),
-        Err(_) => Err(SliceRefusal::Memory),
-    }
+    slices.push(slice).map_err(|_| Memory)
 }
 
 // The bytes of a slice of the picture with these bands, unless they are over the share.
@@ -114,16 +95,14 @@ fn encode_within(
     requires planes { AreGreyPlanes (header_of settings.now) bands.now }
     requires slice { slice < slice_count (header_of settings.now) }
     requires layout { rows.old.layout ≡ geometry_of (header_of settings.now) }
-    ensures bytes { IfOk result (λ bytes. (picture : Picture) → AreBandsOf (header_of settings.now) picture bands.now → bytes ≡ slice_at (header_of settings.now) (rows_of (header_of settings.now) picture) slice finest) }
+    ensures bytes { IfOk result (λ bytes. (picture : Picture) → AreBandsOf (header_of settings.now) picture bands.now → bytes ≡ slice_at (header_of settings.now) (rows_of_picture (header_of settings.now) picture) slice finest) }
     ensures within { IfOk result (λ bytes. length bytes ≤ settings.now.share) }
-    ensures over { MatchResult result (λ _. ⊤) (λ refusal. (picture : Picture) → AreBandsOf (header_of settings.now) picture bands.now → IsOver (header_of settings.now) (rows_of (header_of settings.now) picture) settings.now.share slice refusal) }
+    ensures over { MatchResult result (λ _. ⊤) (λ refusal. (picture : Picture) → AreBandsOf (header_of settings.now) picture bands.now → IsOver (header_of settings.now) (rows_of_picture (header_of settings.now) picture) settings.now.share slice refusal) }
     ensures layout { rows.new.layout ≡ rows.old.layout }
 {
     let share = settings.settings().share;
-    match encode_slice(alloc, settings, bands, slice, rows) {
-        Ok(bytes) => within(bytes, slice, share),
-        Err(Memory) => Err(SliceRefusal::Memory),
-    }
+    let bytes = encode_slice(alloc, settings, bands, slice, rows)?;
+    within(bytes, slice, share)
 }
 
 // The bytes of a slice, unless they are over the share.
@@ -141,12 +120,10 @@ fn within(bytes: Octets, slice: u32, share: u32) -> Result<Octets, SliceRefusal>
 
 // The codestream of some slices.
 fn join(alloc: Global, settings: &Checked, slices: Vec<Octets>) -> Result<Stream, Memory>
-    requires built { IsBuilt settings.now }
-    requires few { length slices.items ≤ 2047 }
-    requires small { All (λ slice. length slice ≤ 524286) slices.items }
+    requires few { length slices.items ≤ most_slices }
+    requires room { sum_by length slices.items + header_room ≤ most_stream }
     ensures stream { IfOk result (λ stream. stream ≡ stream_of (header_of settings.now) slices.items) }
 {
-    let _asked = settings.settings();
     let mut header = settings.header(alloc)?;
     let size = write_header(alloc, &header)?.len() as u32;
     header.lcod = size + length_of(slices.as_slice()) + 2;
@@ -159,10 +136,8 @@ fn join(alloc: Global, settings: &Checked, slices: Vec<Octets>) -> Result<Stream
 
 // The bytes of some slices together.
 fn length_of(slices: &[Octets]) -> u32
-    requires few { length slices.now ≤ 2047 }
-    requires small { All (λ slice. length slice ≤ 524286) slices.now }
+    requires room { sum_by length slices.now + header_room ≤ most_stream }
     ensures sum { result ≡ sum_by length slices.now }
-    ensures most { result ≤ 1073213442 }
 {
     let mut length = 0;
     for slice in slices {

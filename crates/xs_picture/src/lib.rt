@@ -22,6 +22,7 @@ pub use coefs::StreamCoefs;
 pub use decoder::{decode_coefs, decode_picture};
 pub use encoder::encode_picture;
 pub use reader::read_stream;
+pub use xs_faults::{Budget, SliceRefusal, StreamFault};
 
 /// An encoding is a codestream of the form that is read, of the content that was chosen.
 pub fn encoded_is_read()

@@ -1,11 +1,10 @@
 //! The precincts of a slice.
 ghost use Rattle.std.specs.Prelude.{◌≡◌, ℕ, ◌+◌, ◌*◌, ◌%◌, ◌<◌, ◌≤◌, ◌^◌, ◌++◌, length, OnOk};
 ghost use Rattle.xs_lists.specs.Bits.{bits_of_bytes, bits_of_fields};
-ghost use Rattle.xs_grammar.specs.Geometry.{bands_of, precinct_count};
+ghost use Rattle.xs_params.specs.Geometry.{bands_of, precinct_count};
 ghost use Rattle.xs_rate.specs.Coefficients.{Rows};
-ghost use Rattle.xs_rate.specs.Laws.{IsNarrow};
 ghost use Rattle.xs_rate.specs.WrittenOut.{finest_precinct};
-ghost use Rattle.xs_picture.specs.PacketBits.{aligned, body_bits, body_size, precinct_head};
+ghost use Rattle.xs_picture.specs.PacketBits.{HasPrecinctRoom, aligned, body_bits, body_size, precinct_head};
 ghost use Rattle.xs_picture.specs.PrecinctRows.{ShowPrecinct};
 
 use crate::packet::{packet_at, packet_sizes, write_packet};
@@ -17,7 +16,7 @@ use xs_io::Memory;
 pub fn write_precinct(out: &mut BitWriter, rows: &PrecinctRows, precinct: u32) -> Result<(), Memory>
     requires border { length out.old.bits % 8 ≡ 0 }
     requires there { precinct < precinct_count rows.now.layout }
-    requires narrow { IsNarrow rows.now.layout }
+    requires fits { HasPrecinctRoom rows.now precinct }
     ensures bits { OnOk result ((coefficients : Rows) → ShowPrecinct rows.now.layout coefficients precinct rows.now.rows → out.new.bits ≡ out.old.bits ++ bits_of_bytes (finest_precinct rows.now.layout coefficients precinct)) }
     ensures border { OnOk result (length out.new.bits % 8 ≡ 0) }
 {
@@ -32,9 +31,9 @@ pub fn write_precinct(out: &mut BitWriter, rows: &PrecinctRows, precinct: u32) -
 // The bytes of a precinct's packets.
 fn size_of_body(rows: &PrecinctRows, precinct: u32) -> u32
     requires there { precinct < precinct_count rows.now.layout }
-    requires narrow { IsNarrow rows.now.layout }
+    requires fits { HasPrecinctRoom rows.now precinct }
     ensures size { result ≡ body_size rows.now precinct }
-    ensures most { result ≤ 205450 }
+    ensures most { result < 2 ^ 24 }
 {
     let count = rows.layout().packets(precinct);
     let mut size = 0;
@@ -68,7 +67,7 @@ fn write_head(out: &mut BitWriter, bands: u32, size: u32)
 fn write_body(out: &mut BitWriter, rows: &PrecinctRows, precinct: u32)
     requires border { length out.old.bits % 8 ≡ 0 }
     requires there { precinct < precinct_count rows.now.layout }
-    requires narrow { IsNarrow rows.now.layout }
+    requires fits { HasPrecinctRoom rows.now precinct }
     requires room { 8 * body_size rows.now precinct + 7 ≤ out.old.spare }
     ensures bits { out.new.bits ≡ out.old.bits ++ body_bits rows.now precinct }
     ensures border { length out.new.bits % 8 ≡ 0 }

@@ -1,13 +1,13 @@
 //! The rows of a precinct's lines.
 ghost use Rattle.std.specs.Prelude.{◌≡◌, ℕ, ◌+◌, ◌-◌, ◌*◌, ◌/◌, ◌<◌, ◌≤◌, ◌^◌, ◌++◌, ◌∷◌, [], length, IfOk, slice_index_or};
 ghost use Rattle.xs_layout.specs.declared.Format.TheVariants.{Mono};
-ghost use Rattle.xs_grammar.specs.Geometry.{bands_of, precinct_count, precinct_lines};
-ghost use Rattle.xs_grammar.specs.Header.{IsAccepted};
-ghost use Rattle.xs_geometry.specs.Kept.{IsGeometry, geometry_of};
+ghost use Rattle.xs_params.specs.Geometry.{bands_of, precinct_count, precinct_lines, geometry_of};
+ghost use Rattle.xs_params.specs.Accepted.{IsAccepted, IsGeometry};
+ghost use Rattle.xs_signal.specs.Fold.{IsFraction};
 ghost use Rattle.xs_geometry.specs.Lines.{IsLineOf};
-ghost use Rattle.xs_rate.specs.Finest.{band_groups};
+ghost use Rattle.xs_rate.specs.Laws.{band_groups};
 ghost use Rattle.xs_picture.specs.PacketBits.{line_row};
-ghost use Rattle.xs_picture.specs.PrecinctRows.{AreBlank, HaveRoom, ShowPrecinct, contents, row_in};
+ghost use Rattle.xs_picture.specs.PrecinctRows.{AreRoomyRows, HasRows, ShowPrecinct, contents, row_in};
 ghost use Rattle.xs_picture.specs.Analysed.{AreGreyPlanes, folded_rows};
 
 use crate::fill::fill_bands;
@@ -27,14 +27,14 @@ pub struct PrecinctRows {
 }
 
 impl Model for PrecinctRows {
-    ghost use Rattle.xs_geometry.specs.Kept.{IsGeometry};
-    ghost use Rattle.xs_picture.specs.PrecinctRows.{HaveRoom, PrecinctRows, contents};
+    ghost use Rattle.xs_params.specs.Accepted.{IsGeometry};
+    ghost use Rattle.xs_picture.specs.PrecinctRows.{HasRows, PrecinctRows, contents};
 
     ghost Value = { PrecinctRows };
 
     ghost view = { λ r. record { layout = r.geometry; rows = contents r.bands.items } };
 
-    ghost invariant = { λ r. HaveRoom r.geometry (contents r.bands.items) × IsGeometry r.geometry };
+    ghost invariant = { λ r. HasRows r.geometry (contents r.bands.items) × IsGeometry r.geometry };
 }
 
 impl PrecinctRows {
@@ -52,20 +52,23 @@ impl PrecinctRows {
     pub fn layout(&self) -> &Geometry
         ensures layout { result.now ≡ self.now.layout }
         ensures ranges { IsGeometry self.now.layout }
-        ensures room { HaveRoom self.now.layout self.now.rows }
+        ensures room { HasRows self.now.layout self.now.rows }
     {
         &self.geometry
     }
 
-    /// Takes the lines of a precinct from the planes of the bands of a grey picture.
-    pub fn fill(&mut self, planes: &BandPlanes, precinct: u32)
+    /// Takes the lines of a precinct from the planes of the bands of a grey picture, with so many bits rounded away.
+    pub fn fill(&mut self, planes: &BandPlanes, precinct: u32, fraction: u8)
         requires mono { self.old.layout.shape.format ≡ Mono }
         requires precinct { precinct < precinct_count self.old.layout }
         requires planes { AreGreyPlanes self.old.layout planes.now }
+        requires fraction { IsFraction fraction }
         ensures layout { self.new.layout ≡ self.old.layout }
-        ensures shown { ShowPrecinct self.old.layout (folded_rows self.old.layout planes.now) precinct self.new.rows }
+        ensures room { HasRows self.new.layout self.new.rows }
+        ensures shown { ShowPrecinct self.old.layout (folded_rows self.old.layout fraction planes.now) precinct self.new.rows }
     {
-        fill_bands(&self.geometry, self.bands.as_mut_slice(), planes, precinct);
+        let bands = self.bands.as_mut_slice();
+        fill_bands(&self.geometry, bands, planes, precinct, fraction);
     }
 
     /// The row of a band's line, by its number in the precinct.
@@ -92,7 +95,7 @@ impl PrecinctRows {
 // The rows of each band.
 fn blank_bands(alloc: Global, geometry: &Geometry, nly: u8) -> Result<Vec<Vec<BandRow>>, Memory>
     requires { nly ≡ geometry.now.nly }
-    ensures room { IfOk result (λ bands. HaveRoom geometry.now (contents bands.items)) }
+    ensures room { IfOk result (λ bands. HasRows geometry.now (contents bands.items)) }
     ensures ranges { IsGeometry geometry.now }
 {
     let mut bands = Vec::new(alloc);
@@ -116,7 +119,7 @@ fn lines_at(nly: u8, down: u8) -> u32
 // So many rows of so many code groups.
 fn blank_rows(alloc: Global, groups: u32, lines: u32) -> Result<Vec<BandRow>, Memory>
     requires { groups ≤ 2048 }
-    ensures { IfOk result (λ rows. AreBlank groups lines rows.items) }
+    ensures { IfOk result (λ rows. AreRoomyRows groups lines rows.items) }
 {
     let mut rows = Vec::new(alloc);
     'lines: for _ in 0..lines {

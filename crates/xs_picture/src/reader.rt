@@ -2,8 +2,8 @@
 ghost use Rattle.std.specs.Prelude.{◌≡◌, ◌≢◌, ◌⊎◌, ℕ, ◌≤◌, ◌<◌, ◌^◌, ◌++◌, length, drop, IfOk, IfErr, Err};
 ghost use Rattle.xs_lists.specs.Spelling.{BeginsWith};
 ghost use Rattle.xs_faults.specs.Names.{NamesSliceFault, NamesStreamFault};
-ghost use Rattle.xs_grammar.specs.Geometry.{slice_count};
-ghost use Rattle.xs_grammar.specs.Slice.{eoc};
+ghost use Rattle.xs_params.specs.Geometry.{slice_count};
+ghost use Rattle.xs_params.specs.Markers.{eoc};
 ghost use Rattle.xs_decoding.specs.Built.{HasNoBuiltFront, IsUnbuiltAt};
 ghost use Rattle.xs_picture.specs.Reading.{IsStreamRefusal};
 ghost use Rattle.xs_picture.specs.StreamRead.{IsHeaderRead, AreSlicesRead, IsStreamRead};
@@ -12,7 +12,6 @@ use crate::coefs::StreamCoefs;
 use std::alloc::Global;
 use xs_faults::{HeadFault, PrecinctFault, SliceFault, StreamFault};
 use xs_geometry::Geometry;
-use xs_io::Memory;
 use xs_markers::read_header;
 use xs_params::Header;
 use xs_slice_read::read_front;
@@ -101,10 +100,7 @@ fn read_slices(
             Ok(read) => read,
             Err(fault) => return Err(told_slice(bytes, slice, fault)),
         };
-        match coefs.push(rows) {
-            Ok(()) => {}
-            Err(Memory) => return Err(StreamFault::Memory),
-        }
+        coefs.push(rows)?;
         place += size;
     }
     Ok((coefs, place))

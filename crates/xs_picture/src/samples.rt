@@ -1,11 +1,12 @@
 //! Planes of numbers become the samples of a picture.
 ghost use Rattle.std.specs.Prelude.{◌≡◌, ◌≢◌, ◌⊎◌, ℕ, ◌<◌, ◌^◌, length, slice_index, IfOk, OnOk};
 ghost use Rattle.xs_layout.specs.Geometry.{components_of};
-ghost use Rattle.xs_params.specs.Picture.{AreSamples, IsPlace, IsRow, sample_at, width_of};
+ghost use Rattle.xs_params.specs.Picture.{AreSamples, IsPicture, IsPlace, IsRow, sample_at, width_of};
 ghost use Rattle.xs_signal.specs.Lines.{AllBelow, entries_of};
-ghost use Rattle.xs_signal.specs.Samples.{IsDepth, IsPrecision, scale_out as scaled_out};
-ghost use Rattle.xs_grammar.specs.Geometry.{component_width as width_in};
-ghost use Rattle.xs_grammar.specs.Header.{IsAccepted};
+ghost use Rattle.xs_signal.specs.Samples.{scale_out as scaled_out};
+ghost use Rattle.xs_layout.specs.Limits.{IsDepth, IsPrecision};
+ghost use Rattle.xs_params.specs.Geometry.{component_width as width_in};
+ghost use Rattle.xs_params.specs.Accepted.{IsAccepted};
 ghost use Rattle.xs_wave.specs.Planes.{HasSize, IsSmall, plane_of};
 ghost use Rattle.xs_picture.specs.Decoding.{HasSamples};
 
@@ -78,8 +79,15 @@ fn put_row(component: u32, row: u32, samples: &[u16], picture: &mut Planes)
     ensures written { (column : ℕ) → column < length samples.now → sample_at picture.new component row column ≡ slice_index samples.now column }
     ensures others { (other later column : ℕ) → IsPlace picture.old.shape other later column → (other ≢ component) ⊎ (later ≢ row) → sample_at picture.new other later column ≡ sample_at picture.old other later column }
 {
-    let _shape = picture.shape();
+    known_picture(picture);
     picture.set_row(component, row, samples);
+}
+
+// What the type of planes says of them.
+pub fn known_picture(picture: &Planes)
+    ensures { IsPicture picture.now }
+{
+    picture.shape();
 }
 
 // The samples of a row of numbers.

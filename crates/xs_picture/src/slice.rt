@@ -3,9 +3,8 @@ ghost use Rattle.std.specs.Prelude.{◌≡◌, ◌<◌, IfOk};
 ghost use Rattle.xs_layout.specs.Candidates.{finest};
 ghost use Rattle.xs_params.specs.Headers.{header_of};
 ghost use Rattle.xs_params.specs.Picture.{Picture};
-ghost use Rattle.xs_grammar.specs.Geometry.{slice_count};
-ghost use Rattle.xs_geometry.specs.Kept.{geometry_of};
-ghost use Rattle.xs_rate.specs.Coefficients.{rows_of};
+ghost use Rattle.xs_params.specs.Geometry.{slice_count, geometry_of};
+ghost use Rattle.xs_rate.specs.Coefficients.{rows_of_picture};
 ghost use Rattle.xs_rate.specs.Encoding.{IsBuilt, slice_at};
 ghost use Rattle.xs_picture.specs.Analysed.{AreBandsOf, AreGreyPlanes};
 
@@ -14,6 +13,7 @@ use crate::precinct_rows::PrecinctRows;
 use std::alloc::Global;
 use xs_bits::BitWriter;
 use xs_io::{Memory, Octets};
+use xs_layout::fq_of;
 use xs_params::Checked;
 use xs_wave::BandPlanes;
 
@@ -32,17 +32,17 @@ pub fn encode_slice(
     requires planes { AreGreyPlanes (header_of settings.now) bands.now }
     requires slice { slice < slice_count (header_of settings.now) }
     requires layout { rows.old.layout ≡ geometry_of (header_of settings.now) }
-    ensures bytes { IfOk result (λ bytes. (picture : Picture) → AreBandsOf (header_of settings.now) picture bands.now → bytes ≡ slice_at (header_of settings.now) (rows_of (header_of settings.now) picture) slice finest) }
+    ensures bytes { IfOk result (λ bytes. (picture : Picture) → AreBandsOf (header_of settings.now) picture bands.now → bytes ≡ slice_at (header_of settings.now) (rows_of_picture (header_of settings.now) picture) slice finest) }
     ensures layout { rows.new.layout ≡ rows.old.layout }
 {
-    let _asked = settings.settings();
+    let fraction = fq_of(settings.settings().bits);
     let (first, end) = rows.layout().slice_precincts(slice);
     let mut out = BitWriter::new(alloc);
     out.reserve(48)?;
     out.put(SLICE_HEADER, 32);
     out.put(slice, 16);
     'precincts: for precinct in first..end {
-        rows.fill(bands, precinct);
+        rows.fill(bands, precinct, fraction);
         write_precinct(&mut out, rows, precinct)?;
     }
     Ok(out.finish())

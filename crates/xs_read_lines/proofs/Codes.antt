@@ -3,7 +3,7 @@ use Rattle.std.proofs.Common.{◌≡◌, ℕ, zero, suc, ◌+◌, ◌-◌, ◌<�
 use Rattle.xs_lists.specs.Spelling.{BeginsWith}
 use Rattle.xs_spelling.specs.Counts.{Moves, unary, SpellsResidual}
 use Rattle.xs_spelling.proofs.Unique.{one_residual}
-use Rattle.xs_read_lines.specs.ReadLine.{AreCounts, counts_bits}
+use Rattle.xs_read_lines.specs.ReadLine.{AreReadCounts, counts_bits}
 use Rattle.xs_read_lines.specs.Groups.{BeginWithNoCount}
 
 -- a count that is predicted to be the truncation
@@ -44,7 +44,7 @@ first_cut truncation count other counts others y z p q e =
 -- A refused count
 
 -- no counts go on where none goes on
-pub no_counts : (truncation : ℕ) (so_far other now bits : List ℕ) → AreCounts truncation so_far → AreCounts truncation other → length so_far < length other
+pub no_counts : (truncation : ℕ) (so_far other now bits : List ℕ) → AreReadCounts truncation so_far → AreReadCounts truncation other → length so_far < length other
     → bits ≡ counts_bits truncation so_far ++ now → BeginWithNoCount truncation now → BeginsWith bits (counts_bits truncation other) → ⊥
 no_counts truncation [] [] now bits p q less e none begin = absurd (omega (arith, less))
 no_counts truncation (c ∷ cs) [] now bits p q less e none begin = absurd (omega (arith, less))

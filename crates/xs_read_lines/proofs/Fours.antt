@@ -18,7 +18,7 @@ use Rattle.xs_lists.specs.Bits.{bit_of}
 use Rattle.xs_lists.specs.Spelling.{upto, downto, SpellsEach}
 use Rattle.xs_signal.specs.Quantiser.{shift_sum, unquantised, with_sign_of, dequantised}
 use Rattle.xs_spelling.specs.Data.{SpellsSign}
-use Rattle.xs_read_lines.specs.Groups.{plane_of, signed_by, all_signed, AreGroupValues}
+use Rattle.xs_read_lines.specs.Groups.{bit_plane_in, signed_by, all_signed, AreGroupValues}
 use Rattle.xs_read_lines.proofs.Planes.{same_pieces}
 
 -- A magnitude with a sign
@@ -113,29 +113,29 @@ all_dequantised kind count cut (b ∷ bs) (v ∷ vs) some h =
 
 -- Planes over the truncation
 
-plane_of_numbers : (numbers : List ℤ) (plane : ℕ) → map (λ z. unsigned_abs z / 2 ^ plane % 2) numbers ≡ plane_of (map unsigned_abs numbers) plane
+plane_of_numbers : (numbers : List ℤ) (plane : ℕ) → map (λ z. unsigned_abs z / 2 ^ plane % 2) numbers ≡ bit_plane_in (map unsigned_abs numbers) plane
 plane_of_numbers [] plane = refl
 plane_of_numbers (z ∷ numbers) plane = ap (λ l. (unsigned_abs z / 2 ^ plane % 2) ∷ l) (plane_of_numbers numbers plane)
 
 planes_over : (numbers : List ℤ) (magnitudes : List ℕ) (count truncation : ℕ) → map unsigned_abs numbers ≡ magnitudes
-    → flat_map (λ plane. map (λ z. unsigned_abs z / 2 ^ (plane - truncation) % 2) numbers) (downto count truncation) ≡ flat_map (plane_of magnitudes) (downto (count - truncation) 0)
+    → flat_map (λ plane. map (λ z. unsigned_abs z / 2 ^ (plane - truncation) % 2) numbers) (downto count truncation) ≡ flat_map (bit_plane_in magnitudes) (downto (count - truncation) 0)
 planes_over numbers magnitudes count truncation e =
     let all : count - truncation ≡ count - truncation - 0 = omega arith in
     let n = count - truncation in
     let at = λ (i : ℕ). count - truncation - (i + 1) in
-    let steps : (i : ℕ) → map (λ z. unsigned_abs z / 2 ^ (count - (i + 1) - truncation) % 2) numbers ≡ plane_of magnitudes (count - truncation - (i + 1)) = λ i. (
+    let steps : (i : ℕ) → map (λ z. unsigned_abs z / 2 ^ (count - (i + 1) - truncation) % 2) numbers ≡ bit_plane_in magnitudes (count - truncation - (i + 1)) = λ i. (
     let same : count - (i + 1) - truncation ≡ count - truncation - (i + 1) = omega arith in
-    ap (λ k. map (λ z. unsigned_abs z / 2 ^ k % 2) numbers) same ∙ plane_of_numbers numbers (count - truncation - (i + 1)) ∙ ap (λ l. plane_of l (count - truncation - (i + 1))) e) in
+    ap (λ k. map (λ z. unsigned_abs z / 2 ^ k % 2) numbers) same ∙ plane_of_numbers numbers (count - truncation - (i + 1)) ∙ ap (λ l. bit_plane_in l (count - truncation - (i + 1))) e) in
     flat_map-map (λ plane. map (λ z. unsigned_abs z / 2 ^ (plane - truncation) % 2) numbers) (λ i. count - (i + 1)) (upto n)
-    ∙ same_pieces (λ i. map (λ z. unsigned_abs z / 2 ^ (count - (i + 1) - truncation) % 2) numbers) (λ i. plane_of magnitudes (count - truncation - (i + 1))) (upto n) steps
-    ∙ sym (flat_map-map (plane_of magnitudes) at (upto n))
-    ∙ ap (λ k. flat_map (plane_of magnitudes) (map at (upto k))) all
+    ∙ same_pieces (λ i. map (λ z. unsigned_abs z / 2 ^ (count - (i + 1) - truncation) % 2) numbers) (λ i. bit_plane_in magnitudes (count - truncation - (i + 1))) (upto n) steps
+    ∙ sym (flat_map-map (bit_plane_in magnitudes) at (upto n))
+    ∙ ap (λ k. flat_map (bit_plane_in magnitudes) (map at (upto k))) all
 
 -- The four numbers
 
 pub group_made : (kind : Quant) (count truncation : ℕ) (values : List ℤ) (bits planes signs magnitudes sizes : List ℕ) → truncation < count → length signs ≡ 4 → length magnitudes ≡ 4
     → AllByRecursion (λ bit. bit < 2) signs → All (λ v. v < 2 ^ (count - truncation)) magnitudes
-    → bits ≡ signs ++ planes → planes ≡ flat_map (plane_of magnitudes) (downto (count - truncation) 0)
+    → bits ≡ signs ++ planes → planes ≡ flat_map (bit_plane_in magnitudes) (downto (count - truncation) 0)
     → sizes ≡ map (unquantised kind count truncation) magnitudes → values ≡ all_signed signs sizes
     → AreGroupValues kind count truncation values bits
 group_made kind count truncation values bits planes signs magnitudes sizes some four more are small joined below made stand =

@@ -7,7 +7,7 @@ use Rattle.std.proofs.lemmas.List.Folds.{flat_map-map}
 use Rattle.xs_lists.specs.Spelling.{upto, SpellsEach}
 use Rattle.xs_lists.proofs.Each.{each-made, range-all}
 use Rattle.xs_spelling.specs.Counts.{unary, has_flags, unspelled_count, SpellsResidual, SpellsCount}
-use Rattle.xs_read_lines.specs.ReadLine.{AreCounts, counts_bits, line_of}
+use Rattle.xs_read_lines.specs.ReadLine.{AreReadCounts, counts_bits, line_of_read}
 use Rattle.xs_read_lines.specs.Laws.{CountsSpelled, CountsOfSpelled, NumbersSized, CountsOne}
 use Rattle.xs_read_lines.proofs.Codes.{residual, of_residual, first_cut}
 use Rattle.xs_read_lines.proofs.Turns.{count_at, map_tail, groups_sized}
@@ -22,7 +22,7 @@ counts_one truncation (c ∷ cs) (d ∷ ds) y z n p q e =
     (ap (λ x. x ∷ cs) first.1 ∙ ap (λ l. d ∷ l) rest.0, rest.1)
 
 pub counts_spelled : CountsSpelled
-counts_spelled run_mode l flag are = subst (SpellsEach (SpellsCount run_mode (line_of l) flag) (upto (length l.counts))) same made
+counts_spelled run_mode l flag are = subst (SpellsEach (SpellsCount run_mode (line_of_read l) flag) (upto (length l.counts))) same made
   where
     here : (i : ℕ) → i < length l.counts → get_or l.counts (0 + i) 0 ≡ get_or l.counts i 0
     here i inside = let e : 0 + i ≡ i = omega arith in ap (λ k. get_or l.counts k 0) e
@@ -31,11 +31,11 @@ counts_spelled run_mode l flag are = subst (SpellsEach (SpellsCount run_mode (li
     same = sym (flat_map-map (λ count. unary (count - l.truncation)) (λ group. get_or l.counts group 0) (upto (length l.counts)))
         ∙ ap (counts_bits l.truncation) (map_tail (λ group. get_or l.counts group 0) 0 l.counts 0 here)
 
-    one : (group : ℕ) → group < length l.counts → SpellsCount run_mode (line_of l) flag group (unary (get_or l.counts group 0 - l.truncation))
+    one : (group : ℕ) → group < length l.counts → SpellsCount run_mode (line_of_read l) flag group (unary (get_or l.counts group 0 - l.truncation))
     one group inside = let range = count_at l.truncation l.counts group are inside in (range.1, residual l.truncation (get_or l.counts group 0) range.0)
 
-    made : SpellsEach (SpellsCount run_mode (line_of l) flag) (upto (length l.counts)) (flat_map (λ group. unary (get_or l.counts group 0 - l.truncation)) (upto (length l.counts)))
-    made = each-made (SpellsCount run_mode (line_of l) flag) (λ group. unary (get_or l.counts group 0 - l.truncation)) (upto (length l.counts)) (range-all _ 0 (length l.counts) (λ group low high. one group (omega (arith, high))))
+    made : SpellsEach (SpellsCount run_mode (line_of_read l) flag) (upto (length l.counts)) (flat_map (λ group. unary (get_or l.counts group 0 - l.truncation)) (upto (length l.counts)))
+    made = each-made (SpellsCount run_mode (line_of_read l) flag) (λ group. unary (get_or l.counts group 0 - l.truncation)) (upto (length l.counts)) (range-all _ 0 (length l.counts) (λ group low high. one group (omega (arith, high))))
 
 pub counts_of_spelled : CountsOfSpelled
 counts_of_spelled run_mode line flag bits mode same p = all (upto line.groups) bits p
@@ -48,7 +48,7 @@ counts_of_spelled run_mode line flag bits mode same p = all (upto line.groups) b
         let parts = of_residual line.truncation (line.count group) l (subst (λ m. SpellsResidual m line.truncation (line.count group) l) (same group) moved) in
         (parts.0, (parts.1, q.0))
 
-    all : (groups bits : List ℕ) → SpellsEach (SpellsCount run_mode line flag) groups bits → (bits ≡ counts_bits line.truncation (map line.count groups)) × AreCounts line.truncation (map line.count groups)
+    all : (groups bits : List ℕ) → SpellsEach (SpellsCount run_mode line flag) groups bits → (bits ≡ counts_bits line.truncation (map line.count groups)) × AreReadCounts line.truncation (map line.count groups)
     all [] bits p = (p, tt)
     all (group ∷ groups) bits p =
         let first = one group p.0 p.3 in

@@ -10,7 +10,7 @@ use Rattle.xs_lists.specs.Bits.{bits_of}
 use Rattle.xs_lists.specs.Spelling.{upto, downto}
 use Rattle.xs_lists.proofs.Bits.{bits_split, bits_mod, bits_cat}
 use Rattle.xs_lists.proofs.Each.{range-more}
-use Rattle.xs_read_lines.specs.Groups.{plane_of}
+use Rattle.xs_read_lines.specs.Groups.{bit_plane_in}
 
 -- Words and nibbles
 
@@ -67,39 +67,39 @@ planes_low g n =
     ∙ ap (λ l. flat_map (λ i. g (i + 1)) l ++ g 0) (sym (downto_end n))
 
 -- a plane of halved magnitudes is the one above
-plane_up : (magnitudes : List ℕ) (plane : ℕ) → plane_of magnitudes (plane + 1) ≡ plane_of (map (λ v. v / 2) magnitudes) plane
+plane_up : (magnitudes : List ℕ) (plane : ℕ) → bit_plane_in magnitudes (plane + 1) ≡ bit_plane_in (map (λ v. v / 2) magnitudes) plane
 plane_up [] plane = refl
 plane_up (v ∷ magnitudes) plane =
     let one : 1 + plane ≡ plane + 1 = omega arith in
     let bit : v / 2 ^ (plane + 1) % 2 ≡ v / 2 / 2 ^ plane % 2 = ap (λ k. k % 2) (sym (shr-shr v 1 plane ∙ ap (λ k. v / 2 ^ k) one)) in
-    ap (λ k. k ∷ plane_of magnitudes (plane + 1)) bit ∙ ap (λ l. (v / 2 / 2 ^ plane % 2) ∷ l) (plane_up magnitudes plane)
+    ap (λ k. k ∷ bit_plane_in magnitudes (plane + 1)) bit ∙ ap (λ l. (v / 2 / 2 ^ plane % 2) ∷ l) (plane_up magnitudes plane)
 
-plane_lowest : (magnitudes : List ℕ) → plane_of magnitudes 0 ≡ map (λ v. v % 2) magnitudes
+plane_lowest : (magnitudes : List ℕ) → bit_plane_in magnitudes 0 ≡ map (λ v. v % 2) magnitudes
 plane_lowest [] = refl
-plane_lowest (v ∷ magnitudes) = ap (λ k. k % 2 ∷ plane_of magnitudes 0) (div-one v) ∙ ap (λ l. v % 2 ∷ l) (plane_lowest magnitudes)
+plane_lowest (v ∷ magnitudes) = ap (λ k. k % 2 ∷ bit_plane_in magnitudes 0) (div-one v) ∙ ap (λ l. v % 2 ∷ l) (plane_lowest magnitudes)
 
 pub planes_more : (magnitudes longer : List ℕ) (n : ℕ) → map (λ v. v / 2) longer ≡ magnitudes
-    → flat_map (plane_of longer) (downto (n + 1) 0) ≡ flat_map (plane_of magnitudes) (downto n 0) ++ map (λ v. v % 2) longer
+    → flat_map (bit_plane_in longer) (downto (n + 1) 0) ≡ flat_map (bit_plane_in magnitudes) (downto n 0) ++ map (λ v. v % 2) longer
 planes_more magnitudes longer n halves =
-    planes_low (plane_of longer) n
-    ∙ ap (λ l. l ++ plane_of longer 0) (same_pieces (λ i. plane_of longer (i + 1)) (plane_of magnitudes) (downto n 0) (λ i. plane_up longer i ∙ ap (λ l. plane_of l i) halves))
-    ∙ ap (λ l. flat_map (plane_of magnitudes) (downto n 0) ++ l) (plane_lowest longer)
+    planes_low (bit_plane_in longer) n
+    ∙ ap (λ l. l ++ bit_plane_in longer 0) (same_pieces (λ i. bit_plane_in longer (i + 1)) (bit_plane_in magnitudes) (downto n 0) (λ i. plane_up longer i ∙ ap (λ l. bit_plane_in l i) halves))
+    ∙ ap (λ l. flat_map (bit_plane_in magnitudes) (downto n 0) ++ l) (plane_lowest longer)
 
 -- A reader's turn
 
 pub bits_more : (number planes plane nibble : ℕ) (magnitudes longer whole : List ℕ) → 0 < plane → plane ≤ planes → map (λ v. v / 2) longer ≡ magnitudes
     → bits_of 4 nibble ≡ map (λ v. v % 2) longer → bits_of (4 * (plane - 1 + 1)) number ≡ bits_of 4 nibble ++ bits_of (4 * (plane - 1)) number
-    → whole ≡ flat_map (plane_of magnitudes) (downto (planes - plane) 0) ++ bits_of (4 * plane) number
-    → whole ≡ flat_map (plane_of longer) (downto (planes - (plane - 1)) 0) ++ bits_of (4 * (plane - 1)) number
+    → whole ≡ flat_map (bit_plane_in magnitudes) (downto (planes - plane) 0) ++ bits_of (4 * plane) number
+    → whole ≡ flat_map (bit_plane_in longer) (downto (planes - (plane - 1)) 0) ++ bits_of (4 * (plane - 1)) number
 bits_more number planes plane nibble magnitudes longer whole some within halves bits over so_far =
     let here : plane ≡ plane - 1 + 1 = omega (arith, some) in
     let count : planes - plane + 1 ≡ planes - (plane - 1) = omega (arith, some, within) in
-    let before = flat_map (plane_of magnitudes) (downto (planes - plane) 0) in
+    let before = flat_map (bit_plane_in magnitudes) (downto (planes - plane) 0) in
     let rest = bits_of (4 * (plane - 1)) number in
     so_far ∙ ap (λ k. before ++ bits_of (4 * k) number) here ∙ ap (λ l. before ++ l) (over ∙ ap (λ l. l ++ rest) bits)
     ∙ sym (append_assoc before (map (λ v. v % 2) longer) rest)
     ∙ ap (λ l. l ++ rest) (sym (planes_more magnitudes longer (planes - plane) halves))
-    ∙ ap (λ n. flat_map (plane_of longer) (downto n 0) ++ rest) count
+    ∙ ap (λ n. flat_map (bit_plane_in longer) (downto n 0) ++ rest) count
 
 pub small_more : (planes plane : ℕ) (magnitudes longer : List ℕ) → 0 < plane → plane ≤ planes → map (λ v. v / 2) longer ≡ magnitudes
     → All (λ v. v < 2 ^ (planes - plane)) magnitudes → All (λ v. v < 2 ^ (planes - (plane - 1))) longer
@@ -113,9 +113,9 @@ small_more planes plane magnitudes longer some within halves small k d inside =
     subst (λ n. get_or longer k d < 2 ^ n) count less
 
 pub bits_whole : (number planes plane : ℕ) (magnitudes whole : List ℕ) → plane ≡ 0
-    → whole ≡ flat_map (plane_of magnitudes) (downto (planes - plane) 0) ++ bits_of (4 * plane) number → whole ≡ flat_map (plane_of magnitudes) (downto planes 0)
+    → whole ≡ flat_map (bit_plane_in magnitudes) (downto (planes - plane) 0) ++ bits_of (4 * plane) number → whole ≡ flat_map (bit_plane_in magnitudes) (downto planes 0)
 unfolding bits_of
 bits_whole number planes plane magnitudes whole none so_far =
     let all : planes - 0 ≡ planes = omega arith in
-    so_far ∙ ap (λ k. flat_map (plane_of magnitudes) (downto (planes - k) 0) ++ bits_of (4 * k) number) none
-    ∙ append-nil (flat_map (plane_of magnitudes) (downto (planes - 0) 0)) ∙ ap (λ n. flat_map (plane_of magnitudes) (downto n 0)) all
+    so_far ∙ ap (λ k. flat_map (bit_plane_in magnitudes) (downto (planes - k) 0) ++ bits_of (4 * k) number) none
+    ∙ append-nil (flat_map (bit_plane_in magnitudes) (downto (planes - 0) 0)) ∙ ap (λ n. flat_map (bit_plane_in magnitudes) (downto n 0)) all

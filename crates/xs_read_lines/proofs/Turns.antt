@@ -15,10 +15,10 @@ use Rattle.xs_signal.specs.Lines.{entries_of}
 use Rattle.xs_signal.specs.Quantiser.{dequantised}
 use Rattle.xs_spelling.specs.Counts.{Line}
 use Rattle.xs_spelling.specs.Data.{columns_of, SpellsSign, SpellsGroup}
-use Rattle.xs_read_lines.specs.ReadLine.{AreCounts, AreNumbersRead, Buffered, group_size, numbers_size, line_of}
+use Rattle.xs_read_lines.specs.ReadLine.{AreReadCounts, AreNumbersRead, Buffered, read_group_size, line_numbers_size, line_of_read}
 use Rattle.xs_read_lines.specs.Groups.{SpellsFour, IsGroupRead, AreGroupsRead}
 
-pub count_at : (truncation : ℕ) (counts : List ℕ) (k : ℕ) → AreCounts truncation counts → k < length counts → (truncation ≤ get_or counts k 0) × (get_or counts k 0 ≤ 15)
+pub count_at : (truncation : ℕ) (counts : List ℕ) (k : ℕ) → AreReadCounts truncation counts → k < length counts → (truncation ≤ get_or counts k 0) × (get_or counts k 0 ≤ 15)
 count_at truncation [] k are inside = absurd (omega (arith, inside))
 count_at truncation (c ∷ cs) zero are inside = are.0
 count_at truncation (c ∷ cs) (suc k) are inside = count_at truncation cs k are.1 (omega (arith, inside))
@@ -57,7 +57,7 @@ planes_sized f numbers [] four = refl
 planes_sized f numbers (plane ∷ planes) four =
     omega (arith, length-append (map (f plane) numbers) (flat_map (λ plane. map (f plane) numbers) planes), length-map numbers (f plane), four, planes_sized f numbers planes four)
 
-pub four_sized : (count truncation : ℕ) (numbers : List ℤ) (bits : List ℕ) → SpellsFour count truncation numbers bits → length bits ≡ group_size truncation count
+pub four_sized : (count truncation : ℕ) (numbers : List ℤ) (bits : List ℕ) → SpellsFour count truncation numbers bits → length bits ≡ read_group_size truncation count
 four_sized count truncation numbers bits p =
     let bit : ℕ → ℤ → ℕ = λ plane z. unsigned_abs z / 2 ^ (plane - truncation) % 2 in
     let planes : length (flat_map (λ plane. map (λ z. unsigned_abs z / 2 ^ (plane - truncation) % 2) numbers) (downto count truncation)) ≡ 4 * length (downto count truncation) =
@@ -72,24 +72,24 @@ four_sized count truncation numbers bits p =
     cases true is signed = omega (arith, signs_sized numbers p.signs signed, p.size)
     cases false is signed = let none = ltb-false truncation count is in omega (arith, ap length signed, none)
 
-pub groups_sized : (line : Line) (groups bits : List ℕ) → SpellsEach (SpellsGroup false line) groups bits → length bits ≡ sum_by (group_size line.truncation) (map line.count groups)
+pub groups_sized : (line : Line) (groups bits : List ℕ) → SpellsEach (SpellsGroup false line) groups bits → length bits ≡ sum_by (read_group_size line.truncation) (map line.count groups)
 groups_sized line [] bits p = ap length p
 groups_sized line (group ∷ groups) bits p =
     let one = four_sized (line.count group) line.truncation (map line.value (columns_of group)) p.0 (four_of_group line group p.0 p.3) in
-    omega (arith, ap length p.2, length-append p.0 p.1, one, groups_sized line groups p.1 p.4, sum_by-cons (group_size line.truncation) (line.count group) (map line.count groups))
+    omega (arith, ap length p.2, length-append p.0 p.1, one, groups_sized line groups p.1 p.4, sum_by-cons (read_group_size line.truncation) (line.count group) (map line.count groups))
 
-pub read_sized : (kind : Quant) (count truncation : ℕ) (values : List ℤ) (bits rest : List ℕ) → IsGroupRead kind count truncation values bits rest → length bits ≡ group_size truncation count + length rest
+pub read_sized : (kind : Quant) (count truncation : ℕ) (values : List ℤ) (bits rest : List ℕ) → IsGroupRead kind count truncation values bits rest → length bits ≡ read_group_size truncation count + length rest
 read_sized kind count truncation values bits rest p =
     omega (arith, ap length p.joined, length-append p.front rest, four_sized count truncation p.are.numbers p.front p.are.spelled)
 
 -- the bits that are left where one more code group was read
-pub size_more : (truncation : ℕ) (counts : List ℕ) (k whole now next : ℕ) → k < length counts → whole ≡ sum_by (group_size truncation) (take k counts) + now
-    → now ≡ group_size truncation (get_or counts k 0) + next → whole ≡ sum_by (group_size truncation) (take (k + 1) counts) + next
-size_more truncation counts k whole now next inside so_far step = omega (arith, so_far, step, sum_by_more (group_size truncation) counts k 0 inside)
+pub size_more : (truncation : ℕ) (counts : List ℕ) (k whole now next : ℕ) → k < length counts → whole ≡ sum_by (read_group_size truncation) (take k counts) + now
+    → now ≡ read_group_size truncation (get_or counts k 0) + next → whole ≡ sum_by (read_group_size truncation) (take (k + 1) counts) + next
+size_more truncation counts k whole now next inside so_far step = omega (arith, so_far, step, sum_by_more (read_group_size truncation) counts k 0 inside)
 
-pub size_short : (truncation : ℕ) (counts : List ℕ) (k whole now : ℕ) → k < length counts → whole ≡ sum_by (group_size truncation) (take k counts) + now
-    → now < group_size truncation (get_or counts k 0) → whole < numbers_size truncation counts
-size_short truncation counts k whole now inside so_far short = omega (arith, so_far, short, sum_by_more_le (group_size truncation) counts k 0 inside)
+pub size_short : (truncation : ℕ) (counts : List ℕ) (k whole now : ℕ) → k < length counts → whole ≡ sum_by (read_group_size truncation) (take k counts) + now
+    → now < read_group_size truncation (get_or counts k 0) → whole < line_numbers_size truncation counts
+size_short truncation counts k whole now inside so_far short = omega (arith, so_far, short, sum_by_more_le (read_group_size truncation) counts k 0 inside)
 
 -- Numbers at the columns of a code group
 
@@ -119,7 +119,7 @@ columns_last xs ys group before four =
 -- A reader's turn
 
 abbrev the_line : ℕ → List ℕ → List ℤ → Line
-the_line truncation counts numbers = line_of (record { truncation = truncation; counts = counts; numbers = numbers })
+the_line truncation counts numbers = line_of_read (record { truncation = truncation; counts = counts; numbers = numbers })
 
 group_kept : (truncation : ℕ) (counts : List ℕ) (numbers more : List ℤ) (group : ℕ) (bits : List ℕ) → 4 * group + 4 ≤ length numbers
     → SpellsGroup false (the_line truncation counts numbers) group bits → SpellsGroup false (the_line truncation counts (numbers ++ more)) group bits
@@ -200,6 +200,6 @@ line_read kind truncation counts values before after bits rest cut same groups s
     r = subst (λ v. AreGroupsRead kind before.truncation before.counts (length before.counts) v bits rest) stand
         (subst (λ l. AreGroupsRead kind before.truncation l (length l) values bits rest) same (subst (λ t. AreGroupsRead kind t counts (length counts) values bits rest) cut read))
 
-pub line_short : (truncation : ℕ) (counts bits : List ℕ) (before : Buffered) → truncation ≡ before.truncation → counts ≡ before.counts → length bits < numbers_size truncation counts
-    → length bits < numbers_size before.truncation before.counts
-line_short truncation counts bits before cut same short = subst (λ l. length bits < numbers_size before.truncation l) same (subst (λ t. length bits < numbers_size t counts) cut short)
+pub line_short : (truncation : ℕ) (counts bits : List ℕ) (before : Buffered) → truncation ≡ before.truncation → counts ≡ before.counts → length bits < line_numbers_size truncation counts
+    → length bits < line_numbers_size before.truncation before.counts
+line_short truncation counts bits before cut same short = subst (λ l. length bits < line_numbers_size before.truncation l) same (subst (λ t. length bits < line_numbers_size t counts) cut short)

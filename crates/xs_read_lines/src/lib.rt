@@ -7,8 +7,6 @@ mod band;
 mod counts;
 mod faults;
 mod numbers;
-#[cfg(test)]
-mod tests;
 
 pub use band::BandLine;
 pub use faults::{CountFault, NumberFault};

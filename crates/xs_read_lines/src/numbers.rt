@@ -6,8 +6,8 @@ ghost use Rattle.xs_lists.specs.Bits.{bits_of};
 ghost use Rattle.xs_lists.specs.Spelling.{downto};
 ghost use Rattle.xs_signal.specs.Lines.{entries_of};
 ghost use Rattle.xs_spelling.specs.Data.{columns_of};
-ghost use Rattle.xs_read_lines.specs.ReadLine.{AreCounts, group_size, numbers_size};
-ghost use Rattle.xs_read_lines.specs.Groups.{plane_of, signed_by, all_signed, AreGroupValues, IsGroupRead, AreGroupsRead};
+ghost use Rattle.xs_read_lines.specs.ReadLine.{AreReadCounts, read_group_size, line_numbers_size};
+ghost use Rattle.xs_read_lines.specs.Groups.{bit_plane_in, signed_by, all_signed, AreGroupValues, IsGroupRead, AreGroupsRead};
 
 use crate::faults::NumberFault;
 use xs_bits::{BitReader, Ended};
@@ -73,7 +73,7 @@ fn lengthened(magnitudes: [u32; 4], plane: u32) -> [u32; 4]
 // The magnitudes whose planes a number has, from the highest down.
 fn magnitudes(number: u64, planes: u8) -> [u32; 4]
     requires { planes ≤ 15 }
-    ensures bits { bits_of (4 * planes) number ≡ flat_map (plane_of result) (downto planes 0) }
+    ensures bits { bits_of (4 * planes) number ≡ flat_map (bit_plane_in result) (downto planes 0) }
     ensures small { All (λ v. v < 2 ^ planes) result }
 {
     let mut magnitudes = [0; 4];
@@ -129,7 +129,7 @@ fn read_group(
     requires count { count ≤ 15 }
     requires cut { truncation ≤ count }
     ensures spelled { IfOk result (λ values. IsGroupRead kind count truncation values (left input.old) (left input.new)) }
-    ensures ended { OnErr result (length (left input.old) < group_size truncation count) }
+    ensures ended { OnErr result (length (left input.old) < read_group_size truncation count) }
 {
     if count == truncation {
         return Ok([0; 4]);
@@ -156,10 +156,10 @@ pub fn read_numbers(
     counts: &[u8],
     values: &mut [i32],
 ) -> Result<(), NumberFault>
-    requires counts { AreCounts truncation counts.now }
+    requires counts { AreReadCounts truncation counts.now }
     requires width { length values.old ≡ 4 * length counts.now }
     ensures spelled { OnOk result (AreGroupsRead kind truncation counts.now (length counts.now) values.new (left input.old) (left input.new)) }
-    ensures ended { OnErr result (length (left input.old) < numbers_size truncation counts.now) }
+    ensures ended { OnErr result (length (left input.old) < line_numbers_size truncation counts.now) }
 {
     for group in 0..counts.len() {
         let four = read_group(input, kind, counts[group], truncation)?;

@@ -2,7 +2,8 @@
 ghost use Rattle.std.specs.Prelude.{◌≡◌, ◌≤◌, ◌<◌, ◌^◌, ◌*◌, ◌-◌, ℤ, pos, ◌+ℤ◌, ◌-ℤ◌};
 ghost use Rattle.std.specs.Int.{int_shr};
 ghost use Rattle.xs_signal.specs.Lines.{IsBelow};
-ghost use Rattle.xs_signal.specs.Samples.{IsDepth, IsPrecision, scale_in as scaled_in, scale_out as scaled_out, clamped};
+ghost use Rattle.xs_signal.specs.Samples.{scale_in as scaled_in, scale_out as scaled_out, clamped};
+ghost use Rattle.xs_layout.specs.Limits.{IsDepth, IsPrecision};
 
 /// A sample of `depth` bits as a number of `bw` bits round 0.
 pub fn scale_in(sample: u16, depth: u8, bw: u8) -> i64

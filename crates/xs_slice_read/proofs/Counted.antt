@@ -4,7 +4,7 @@ use Rattle.std.specs.List.{flat_map, AllByRecursion}
 use Rattle.std.proofs.Common.{set}
 use Rattle.xs_lists.proofs.Cut.{same_head}
 use Rattle.xs_lists.proofs.Walk.{all-append}
-use Rattle.xs_read_lines.specs.ReadLine.{AreCounts, BeginWithNoCounts, Buffered, HasCounts, ReadLine, counts_bits}
+use Rattle.xs_read_lines.specs.ReadLine.{AreReadCounts, BeginWithNoCounts, Buffered, HasCounts, ReadLine, counts_bits}
 use Rattle.xs_read_lines.proofs.Laws.{counts_one}
 use Rattle.xs_slice_read.specs.Packet.{known_of, known_line, counted_line, line_counts, HasRange}
 
@@ -15,7 +15,7 @@ same_counts b l y z known counted range e =
     let size : length b.counts ≡ length l.counts = counted.size ∙ sym (ap (λ (k : ℕ × ℕ). k.0) known) in
     let cut : l.truncation ≡ b.truncation = ap (λ (k : ℕ × ℕ). k.1) known in
     let moved : counts_bits b.truncation b.counts ++ y ≡ counts_bits b.truncation l.counts ++ z = e ∙ ap (λ t. counts_bits t l.counts ++ z) cut in
-    let one = counts_one b.truncation b.counts l.counts y z size counted.range (subst (λ t. AreCounts t l.counts) cut range) moved in
+    let one = counts_one b.truncation b.counts l.counts y z size counted.range (subst (λ t. AreReadCounts t l.counts) cut range) moved in
     (ap (λ t. record { truncation = t; counts = b.counts; numbers = [] }) (sym cut) ∙ ap (λ counts. record { truncation = l.truncation; counts = counts; numbers = [] }) one.0, one.1)
 
 -- a line without its numbers
@@ -48,7 +48,7 @@ lines_refused k (b ∷ bs) [] d y z there known counted range e none = absurd (o
 lines_refused zero (b ∷ bs) (l ∷ ls) d y z there known counted range e none =
     let k = head_known b bs l ls known in
     let cut : l.truncation ≡ b.truncation = ap (λ (k : ℕ × ℕ). k.1) k.0 in
-    none l.counts (ap (λ (k : ℕ × ℕ). k.0) k.0) (subst (λ t. AreCounts t l.counts) cut range.0)
+    none l.counts (ap (λ (k : ℕ × ℕ). k.0) k.0) (subst (λ t. AreReadCounts t l.counts) cut range.0)
     (flat_map line_counts ls ++ z, e ∙ append_assoc (line_counts l) (flat_map line_counts ls) z ∙ ap (λ t. counts_bits t l.counts ++ (flat_map line_counts ls ++ z)) cut)
 lines_refused (suc k) (b ∷ bs) (l ∷ ls) d y z there known counted range e none =
     let kn = head_known b bs l ls known in

@@ -13,4 +13,4 @@ pub mod PlainPrecincts
 pub mod Rows
 pub mod Slices
 pub mod Unbuilt
-pub mod UnbuiltIn
+pub mod StoppedIn

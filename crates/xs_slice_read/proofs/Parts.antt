@@ -5,7 +5,7 @@ use Rattle.std.specs.List.{flat_map, sum_by, AllByRecursion}
 use Rattle.std.proofs.lemmas.List.{take-append-drop, take_all, take_at}
 use Rattle.std.proofs.Math.Seq.{take-add}
 use Rattle.std.proofs.lemmas.List.Sums.{sum_by-cons}
-use Rattle.xs_lists.specs.Bits.{bits_of, bit_of, bits_of_bytes, bits_of_fields, HaveRoom}
+use Rattle.xs_lists.specs.Bits.{bits_of, bit_of, bits_of_bytes, bits_of_fields, FieldsFit}
 use Rattle.xs_lists.specs.Spelling.{BeginsWith}
 use Rattle.xs_lists.proofs.Bits.{length-bits_of, length-bits_of_bytes}
 use Rattle.xs_lists.proofs.Cut.{append_cut, all-map, head_agrees, same_head}
@@ -14,7 +14,7 @@ use Rattle.xs_grammar.specs.Packet.{packet_fields}
 use Rattle.xs_faults.specs.declared.PrecinctFault.{PrecinctFault}
 use Rattle.xs_faults.specs.declared.PrecinctFault.TheVariants as fault
 use Rattle.xs_read_lines.specs.ReadLine.{Buffered, HasCounts, ReadLine}
-use Rattle.xs_slice_read.specs.Packet.{known_of, counted_line, line_counts, line_size, head_bytes, HasRange, HoldLines, AreLinesRead, ArePartsRead, BeginWithParts, IsPacketOf, IsPacketRead, IsWholePacket, BeginWithPacket, HasRawHead, IsPartsRefusal, IsPacketRefusal}
+use Rattle.xs_slice_read.specs.Packet.{known_of, counted_line, line_counts, line_size, head_bytes, HasRange, HoldLines, AreLinesRead, ArePartsRead, BeginWithParts, IsPacketOfLines, IsPacketRead, IsWholePacket, BeginWithPacket, HasRawHead, IsPartsRefusal, IsPacketRefusal}
 use Rattle.xs_slice_read.proofs.Counted.{unnumbered, lines_one}
 use Rattle.xs_slice_read.proofs.Heads.{bits_of_bytes-append}
 
@@ -131,7 +131,7 @@ three_parts n counts planes bytes =
     let e : n + counts + planes ≡ n + (counts + planes) = omega arith in
     ap (λ k. take k bytes) e ∙ take-add n (counts + planes) bytes ∙ ap (λ l. take n bytes ++ l) (take-add counts planes (drop n bytes))
 
-pub packet_read : (long raw : Bool) (kind : Quant) (planes counts signs : ℕ) (bands : List Buffered) (bytes : List ℕ) → raw ≡ false → head_bytes long ≤ length bytes → HaveRoom (packet_fields long raw planes counts signs)
+pub packet_read : (long raw : Bool) (kind : Quant) (planes counts signs : ℕ) (bands : List Buffered) (bytes : List ℕ) → raw ≡ false → head_bytes long ≤ length bytes → FieldsFit (packet_fields long raw planes counts signs)
     → bits_of_bytes (take (head_bytes long) bytes) ≡ bits_of_fields (packet_fields long raw planes counts signs) → ArePartsRead kind counts planes bands (drop (head_bytes long) bytes)
     → IsPacketRead long kind bands bytes (head_bytes long + counts + planes)
 packet_read long raw kind planes counts signs bands bytes f enough room spelled read =
@@ -151,7 +151,7 @@ packet_read long raw kind planes counts signs bands bytes f enough room spelled 
         counts = first;
         planes = second;
         joined = three_parts (head_bytes long) counts planes bytes;
-        headed = record { stated = signs; room = subst HaveRoom fields room; spelled = spelled ∙ ap bits_of_fields fields };
+        headed = record { stated = signs; room = subst FieldsFit fields room; spelled = spelled ∙ ap bits_of_fields fields };
         parts = read.parts;
       };
     }
@@ -161,7 +161,7 @@ whole_joined : (head counts planes bytes rest : List ℕ) → bytes ≡ head ++ 
 whole_joined head counts planes bytes rest e = ap (λ l. l ++ rest) e ∙ append_assoc head (counts ++ planes) rest ∙ ap (λ l. head ++ l) (append_assoc counts planes rest)
 
 -- a packet that begins the bytes has the parts that the header says
-pub parts_of_packet : (long raw : Bool) (known : List (ℕ × ℕ)) (planes counts signs : ℕ) (bytes : List ℕ) → head_bytes long ≤ length bytes → HaveRoom (packet_fields long raw planes counts signs)
+pub parts_of_packet : (long raw : Bool) (known : List (ℕ × ℕ)) (planes counts signs : ℕ) (bytes : List ℕ) → head_bytes long ≤ length bytes → FieldsFit (packet_fields long raw planes counts signs)
     → bits_of_bytes (take (head_bytes long) bytes) ≡ bits_of_fields (packet_fields long raw planes counts signs) → BeginWithPacket long known bytes → BeginWithParts known counts planes (drop (head_bytes long) bytes)
 parts_of_packet long raw known planes counts signs bytes enough room spelled p =
     let rest = drop (head_bytes long) bytes in
@@ -187,7 +187,7 @@ parts_of_packet long raw known planes counts signs bytes enough room spelled p =
     }
 
 -- a packet ends where its header says
-pub one_end : (long : Bool) (known : List (ℕ × ℕ)) (lines : List ReadLine) (a b y z : List ℕ) → IsPacketOf long lines a → IsWholePacket long known b → a ++ y ≡ b ++ z → y ≡ z
+pub one_end : (long : Bool) (known : List (ℕ × ℕ)) (lines : List ReadLine) (a b y z : List ℕ) → IsPacketOfLines long lines a → IsWholePacket long known b → a ++ y ≡ b ++ z → y ≡ z
 one_end long known lines a b y z p w e =
     let agree = head_agrees p.head w.head (packet_fields long false (length p.planes) (length p.counts) p.headed.stated) (packet_fields long false (length w.planes) (length w.counts) w.headed.stated)
     (p.counts ++ (p.planes ++ y)) (w.counts ++ (w.planes ++ z)) refl p.headed.room w.headed.room p.headed.spelled w.headed.spelled

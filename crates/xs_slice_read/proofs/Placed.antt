@@ -7,7 +7,7 @@ use borrow.Rule.Slice.PartMut.{mid_of, post_of, put_mid, put_same}
 use Rattle.xs_layout.specs.declared.Quant.{Quant}
 use Rattle.xs_layout.specs.Geometry.{components_of, PacketPlace}
 use Rattle.xs_params.specs.declared.header.Header.{Header}
-use Rattle.xs_grammar.specs.Geometry.{bands_of, packet_bands}
+use Rattle.xs_params.specs.Geometry.{bands_of, packet_bands}
 use Rattle.xs_geometry.specs.SliceLines.{BandLines, HasLine, row_at}
 use Rattle.xs_geometry.proofs.PlaceFacts.{in_range}
 use Rattle.xs_read_lines.specs.ReadLine.{Buffered, ReadLine}

@@ -7,16 +7,16 @@ use Rattle.std.proofs.lemmas.Bool.{true≢false}
 use Rattle.std.proofs.lemmas.List.{length-map}
 use Rattle.std.proofs.lemmas.List.FromFn.{length-range_with_len}
 use Rattle.std.proofs.lemmas.List.Sums.{sum_by-cons}
-use Rattle.xs_lists.specs.Bits.{bits_of_fields, HaveRoom}
+use Rattle.xs_lists.specs.Bits.{bits_of_fields, FieldsFit}
 use Rattle.xs_lists.specs.Spelling.{upto, SpellsEach, SpellsBits, SpellsPadded}
 use Rattle.xs_layout.specs.Geometry.{significance_groups_of}
 use Rattle.xs_params.specs.declared.header.Header.{Header}
 use Rattle.xs_spelling.specs.Counts.{Line, flag_bits, has_flags, SpellsCounts}
 use Rattle.xs_spelling.specs.Data.{SpellsData, sign_bits}
 use Rattle.xs_grammar.specs.Packet.{IsPacket, SpellsBandCounts, packet_fields}
-use Rattle.xs_read_lines.specs.ReadLine.{ReadLine, line_of}
+use Rattle.xs_read_lines.specs.ReadLine.{ReadLine, line_of_read}
 use Rattle.xs_read_lines.proofs.Laws.{counts_spelled, counts_of_spelled, numbers_sized}
-use Rattle.xs_slice_read.specs.Packet.{known_line, line_counts, line_size, HasRange, IsPacketOf, IsWholePacket}
+use Rattle.xs_slice_read.specs.Packet.{known_line, line_counts, line_size, HasRange, IsPacketOfLines, IsWholePacket}
 
 -- a packet of the lines, whose counts are coded
 abbrev pub IsCodedPacket : Header → List ℕ → (ℕ → Line) → List ℕ → Type 0
@@ -27,7 +27,7 @@ IsCodedPacket h bands line bytes = (packet : IsPacket h bands line bytes) × (pa
 -- the lines that were read are those of the bands, one by one
 abbrev pub AreLines : (ℕ → Line) → List ℕ → List ReadLine → Type 0
 AreLines line [] [] = ⊤
-AreLines line (band ∷ bands) (l ∷ lines) = (line_of l ≡ line band) × AreLines line bands lines
+AreLines line (band ∷ bands) (l ∷ lines) = (line_of_read l ≡ line band) × AreLines line bands lines
 AreLines line [] (l ∷ lines) = ⊥
 AreLines line (band ∷ bands) [] = ⊥
 
@@ -54,7 +54,7 @@ counts_of_lines run_mode line flag (band ∷ bands) (l ∷ lines) are range = (
 counts_of_lines run_mode line flag [] (l ∷ lines) are range = absurd are
 counts_of_lines run_mode line flag (band ∷ bands) [] are range = absurd are
 
-data_of_lines : (line : ℕ → Line) (bands : List ℕ) (lines : List ReadLine) (bits : List ℕ) → AreLines line bands lines → SpellsEach (λ l. SpellsData false (line_of l)) lines bits
+data_of_lines : (line : ℕ → Line) (bands : List ℕ) (lines : List ReadLine) (bits : List ℕ) → AreLines line bands lines → SpellsEach (λ l. SpellsData false (line_of_read l)) lines bits
     → SpellsEach (λ band. SpellsData false (line band)) bands bits
 data_of_lines line [] [] bits are p = p
 data_of_lines line (band ∷ bands) (l ∷ lines) bits are p = (p.0, p.1, p.2, subst (λ x. SpellsData false x p.0) are.0 p.3, data_of_lines line bands lines p.1 are.1 p.4)
@@ -64,7 +64,7 @@ data_of_lines line (band ∷ bands) [] bits are p = absurd are
 abbrev none : List ℕ
 none = []
 
-pub packet_spelled : (h : Header) (bands : List ℕ) (line : ℕ → Line) (lines : List ReadLine) (bytes : List ℕ) → h.signs_apart ≡ false → AreLines line bands lines → IsPacketOf h.long_heads lines bytes
+pub packet_spelled : (h : Header) (bands : List ℕ) (line : ℕ → Line) (lines : List ReadLine) (bytes : List ℕ) → h.signs_apart ≡ false → AreLines line bands lines → IsPacketOfLines h.long_heads lines bytes
     → IsCodedPacket h bands line bytes
 packet_spelled h bands line lines bytes apart are s = (packet, refl)
   where
@@ -173,7 +173,7 @@ packet_whole h bands line bytes apart modeless p = record {
   joined = s.joined ∙ ap (λ l. s.head ++ (l ++ (s.counts ++ (s.planes ++ s.signs)))) significance ∙ ap (λ l. s.head ++ (s.counts ++ (s.planes ++ l))) signs ∙ ap (λ l. s.head ++ (s.counts ++ l)) (append-nil s.planes);
   headed = record {
     stated = s.stated;
-    room = subst (λ raw. HaveRoom (packet_fields h.long_heads raw (length s.planes) (length s.counts) s.stated)) p.1 s.room;
+    room = subst (λ raw. FieldsFit (packet_fields h.long_heads raw (length s.planes) (length s.counts) s.stated)) p.1 s.room;
     spelled = s.headed ∙ ap (λ raw. bits_of_fields (packet_fields h.long_heads raw (length s.planes) (length s.counts) s.stated)) p.1;
   };
   parts = record {

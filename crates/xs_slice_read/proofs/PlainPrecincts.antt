@@ -3,15 +3,15 @@ use Rattle.std.proofs.Common.{◌≡◌, ℕ, zero, suc, ◌+◌, ◌-◌, ◌*�
 use Rattle.std.specs.Prelude.{false}
 use Rattle.std.specs.List.{AllByRecursion, Contains, range_with_len}
 use Rattle.std.proofs.lemmas.Nat.{div-mul-add}
-use Rattle.xs_lists.specs.Bits.{bits_of_fields, HaveRoom}
+use Rattle.xs_lists.specs.Bits.{bits_of_fields, FieldsFit}
 use Rattle.xs_lists.specs.Spelling.{SpellsEach, SpellsPadded}
 use Rattle.xs_lists.proofs.Each.{each-same}
 use Rattle.xs_layout.specs.Geometry.{groups_of, PacketPlace}
 use Rattle.xs_layout.specs.Weighting.{truncation_of}
 use Rattle.xs_params.specs.declared.header.Header.{Header}
-use Rattle.xs_grammar.specs.Geometry.{bands_of, band_width_of, packet_bands, packets_of, precinct_lines}
+use Rattle.xs_params.specs.Geometry.{bands_of, band_width_of, packet_bands, packets_of, precinct_lines}
 use Rattle.xs_grammar.specs.Precinct.{Content, precinct_of, weight_of, line_truncation, coded_line, precinct_fields, SpellsPacket}
-use Rattle.xs_geometry.specs.Kept.{IsGeometry}
+use Rattle.xs_params.specs.Accepted.{IsGeometry}
 use Rattle.xs_geometry.specs.Places.{no_place, packet_at}
 use Rattle.xs_geometry.specs.Lines.{IsLineOf}
 use Rattle.xs_geometry.proofs.PacketLines.{packets_have_lines}
@@ -87,7 +87,7 @@ precinct_spelled h content precinct q r packets bytes apart same_q same_r lines 
     body = p.body ++ p.filler;
     joined = p.joined;
     mode = λ _. 0;
-    room = subst HaveRoom fields p.room;
+    room = subst FieldsFit fields p.room;
     headed = subst (λ f. SpellsPadded p.head (bits_of_fields f)) fields p.headed;
     filled = (p.body, p.filler, refl, each-same (IsBuiltPacket h content) (SpellsPacket h content (λ _. 0)) (packets_of h precinct) p.body (all-built h content (packets_of h precinct)) built);
   };
@@ -141,7 +141,7 @@ precinct_begins h content precinct part rest apart ranges p = record {
   body = p.spelled.body;
   rest = rest;
   joined = ap (λ l. l ++ rest) p.spelled.joined ∙ append_assoc p.spelled.head p.spelled.body rest;
-  room = subst HaveRoom fields p.spelled.room;
+  room = subst FieldsFit fields p.spelled.room;
   headed = subst (λ f. SpellsPadded p.spelled.head (bits_of_fields f)) fields p.spelled.headed;
   packets = subst (BeginWithPackets h (content.q precinct) (content.r precinct) (packets_of h precinct)) (sym p.packets.2)
       (begin_packets h content precinct (packets_of h precinct) p.packets.0 p.packets.1 apart (packets_inside h precinct ranges) p.packets.3);

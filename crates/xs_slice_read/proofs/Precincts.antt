@@ -3,16 +3,15 @@ use Rattle.std.proofs.Common.{◌≡◌, ℕ, zero, suc, ◌+◌, ◌*◌, ◌<�
 use Rattle.std.specs.List.{flat_map}
 use Rattle.std.proofs.lemmas.List.{take-append-drop, take_at, drop-append-le}
 use Rattle.std.proofs.Math.Seq.{drop-append-add, take-add}
-use Rattle.xs_lists.specs.Bits.{bits_of, bits_of_bytes, bits_of_fields, bytes_for, HaveRoom}
+use Rattle.xs_lists.specs.Bits.{bits_of, bits_of_bytes, bits_of_fields, bytes_for, FieldsFit}
 use Rattle.xs_lists.specs.Packing.{number_of}
 use Rattle.xs_lists.specs.Spelling.{upto, SpellsPadded}
 use Rattle.xs_lists.proofs.Bits.{length-bits_of, length-bits_of_bytes}
 use Rattle.xs_lists.proofs.Cut.{append_cut, padded_agrees}
 use Rattle.xs_params.specs.declared.header.Header.{Header}
-use Rattle.xs_grammar.specs.Geometry.{bands_of}
+use Rattle.xs_params.specs.Geometry.{bands_of, packets_of}
 use Rattle.std.proofs.Common.{inl, inr}
 use Rattle.std.proofs.lemmas.List.FromFn.{length-range_with_len}
-use Rattle.xs_grammar.specs.Geometry.{packets_of}
 use Rattle.xs_geometry.specs.SliceLines.{BandLines}
 use Rattle.xs_decoding.specs.Built.{precinct_head_size, mode_at, q_at, r_at, stated_size, IsUnbuilt, IsWholePrecinct}
 use Rattle.xs_slice_read.specs.Precinct.{plain_fields, ArePacketsRead, BeginWithPackets, HasModeAmong, BeginWithPrecinct, IsPrecinctRead}
@@ -117,24 +116,31 @@ plain_modes bands size q r band head p inside =
     ap (λ l. number_of (take 2 (drop (40 + 2 * band) l))) whole ∙ ap (λ n. number_of (take 2 (drop (n + 2 * band) (before ++ (zeros_of bands ++ p.begin.0))))) (sym count)
     ∙ ap (λ l. number_of (take 2 l)) (drop-append-add before (zeros_of bands ++ p.begin.0) (2 * band)) ∙ zero_mode band (upto bands) p.begin.0 there
 
-fields_room : (bands size q r : ℕ) → size < 2 ^ 24 → q < 2 ^ 8 → r < 2 ^ 8 → HaveRoom (plain_fields bands size q r)
+fields_room : (bands size q r : ℕ) → size < 2 ^ 24 → q < 2 ^ 8 → r < 2 ^ 8 → FieldsFit (plain_fields bands size q r)
 fields_room bands size q r a b c = (a, (b, (c, go (upto bands))))
   where
-    go : (xs : List ℕ) → HaveRoom (map (λ _. (2, 0)) xs)
+    go : (xs : List ℕ) → FieldsFit (map (λ _. (2, 0)) xs)
     go [] = tt
     go (x ∷ xs) = (omega arith, go xs)
 
 -- Refusals
 
-pub cut_head : (h : Header) (precinct : ℕ) (bytes : List ℕ) → length bytes < precinct_head_size h → BeginWithPrecinct h precinct bytes → ⊥
-cut_head h precinct bytes short p =
-    omega (arith, short, head_length (bands_of h) (length p.body) p.q p.r p.head p.headed, ap length p.joined, length-append p.head (p.body ++ p.rest))
+pub cut_head : (h : Header) (bytes : List ℕ) → length bytes < precinct_head_size h → IsWholePrecinct h bytes → ⊥
+cut_head h bytes short p = omega (arith, short, p.head)
 
-pub cut_body : (h : Header) (precinct : ℕ) (bytes : List ℕ) (size : ℕ) → size ≡ stated_size bytes → length bytes < precinct_head_size h + size → BeginWithPrecinct h precinct bytes → ⊥
-cut_body h precinct bytes size said short p =
+pub cut_body : (h : Header) (bytes : List ℕ) (size : ℕ) → size ≡ stated_size bytes → length bytes < precinct_head_size h + size → IsWholePrecinct h bytes → ⊥
+cut_body h bytes size said short p = omega (arith, short, said, p.body)
+
+-- a precinct that begins the bytes does not pass their end
+pub whole_begins : (h : Header) (precinct : ℕ) (bytes : List ℕ) → BeginWithPrecinct h precinct bytes → IsWholePrecinct h bytes
+whole_begins h precinct bytes p =
     let states = head_states (bands_of h) (length p.body) p.q p.r p.head (p.body ++ p.rest) p.room.0 p.headed in
-    let same : size ≡ length p.body = said ∙ ap stated_size p.joined ∙ states in
-    omega (arith, short, same, head_length (bands_of h) (length p.body) p.q p.r p.head p.headed, ap length p.joined, length-append p.head (p.body ++ p.rest), length-append p.body p.rest)
+    let same : stated_size bytes ≡ length p.body = ap stated_size p.joined ∙ states in
+    let first = head_length (bands_of h) (length p.body) p.q p.r p.head p.headed in
+    record {
+      head = omega (arith, first, ap length p.joined, length-append p.head (p.body ++ p.rest));
+      body = omega (arith, same, first, ap length p.joined, length-append p.head (p.body ++ p.rest), length-append p.body p.rest);
+    }
 
 pub not_whole : (h : Header) (precinct : ℕ) (bytes : List ℕ) (packet : ℕ) → length bytes < precinct_head_size h + stated_size bytes → IsUnbuilt h precinct bytes packet → ⊥
 not_whole h precinct bytes packet short p = omega (arith, short, p.whole.body)
@@ -195,7 +201,7 @@ precinct_read h precinct old new bytes size q r s-small q-small r-small enough p
         body = read.spelled.0;
         filler = read.spelled.1;
         joined = take-add n size bytes ∙ ap (λ l. take n bytes ++ l) read.spelled.2;
-        room = subst (λ k. HaveRoom (plain_fields (bands_of h) k q r)) count (fields_room (bands_of h) size q r s-small q-small r-small);
+        room = subst (λ k. FieldsFit (plain_fields (bands_of h) k q r)) count (fields_room (bands_of h) size q r s-small q-small r-small);
         headed = subst (λ k. SpellsPadded (take n bytes) (bits_of_fields (plain_fields (bands_of h) k q r))) count plain;
         order = read.order;
         spelled = read.spelled.3;

@@ -13,17 +13,17 @@ use Rattle.xs_params.specs.declared.header.Header.{Header}
 use Rattle.xs_signal.specs.Lines.{entries_of}
 use Rattle.xs_signal.specs.Quantiser.{dequantised}
 use Rattle.xs_spelling.specs.Counts.{Line}
-use Rattle.xs_grammar.specs.Geometry.{bands_of, band_width_of, band_height_of, packet_bands, packets_of, precincts_of, slice_count}
+use Rattle.xs_params.specs.Geometry.{bands_of, band_width_of, band_height_of, packet_bands, packets_of, precincts_of, slice_count}
 use Rattle.xs_grammar.specs.Precinct.{Content, precinct_of, weight_of, line_truncation, coded_line}
-use Rattle.xs_geometry.specs.Kept.{IsGeometry}
+use Rattle.xs_params.specs.Accepted.{IsGeometry}
 use Rattle.xs_geometry.specs.Places.{no_place, packet_at}
 use Rattle.xs_geometry.specs.Lines.{HoldsLine}
 use Rattle.xs_geometry.specs.SliceLines.{BandLines, row_at}
 use Rattle.xs_geometry.proofs.PlaceFacts.{range_has, in_range}
 use Rattle.xs_geometry.proofs.PacketLines.{packets_have_lines, line_in_one_packet}
 use Rattle.xs_decoding.specs.Dequantised.{dequantised_rows}
-use Rattle.xs_decoding.specs.Laws.{AgreeOnPrecinct}
-use Rattle.xs_read_lines.specs.ReadLine.{ReadLine, line_of}
+use Rattle.xs_decoding.proofs.Packets.{AgreeOnPrecinct}
+use Rattle.xs_read_lines.specs.ReadLine.{ReadLine, line_of_read}
 use Rattle.xs_slice_read.specs.Packet.{known_line}
 use Rattle.xs_slice_read.specs.Precinct.{known_lines, ReadPacket, IsReadPacket, places_of, IsPrecinctOf, IsRowOf, HoldRows, HoldsPacket}
 use Rattle.xs_slice_read.proofs.Plain.{AreLines}
@@ -204,7 +204,7 @@ abbrev line_with : ℕ → ℕ → (ℕ → ℕ) → (ℕ → ℤ) → Line
 line_with groups truncation count value = record { groups = groups; mode = 0; truncation = truncation; prediction = λ _. truncation; count = count; value = value }
 
 pub coded_is : (h : Header) (content : Content) (precinct q r band line : ℕ) (l : ReadLine) → content.q precinct ≡ q → content.r precinct ≡ r → precinct_of h band line ≡ precinct
-    → known_line l ≡ (groups_of (band_width_of h band), truncation_of q r (weight_of h band)) → HoldsAt content band line l → line_of l ≡ coded_line h content 0 band line
+    → known_line l ≡ (groups_of (band_width_of h band), truncation_of q r (weight_of h band)) → HoldsAt content band line l → line_of_read l ≡ coded_line h content 0 band line
 coded_is h content precinct q r band line l f g here known held =
     let groups : length l.counts ≡ groups_of (band_width_of h band) = ap (λ (k : ℕ × ℕ). k.0) known in
     let truncation : l.truncation ≡ line_truncation h content band line = ap (λ (k : ℕ × ℕ). k.1) known ∙ sym (truncation_in h content precinct q r band line f g here) in
@@ -213,7 +213,7 @@ coded_is h content precinct q r band line l f g here known held =
     ∙ ap (λ c. line_with (groups_of (band_width_of h band)) (line_truncation h content band line) c (λ column. entries_of l.numbers column)) (sym held.counts)
     ∙ ap (λ v. line_with (groups_of (band_width_of h band)) (line_truncation h content band line) (content.count band line) v) (sym held.numbers)
 
-lines_along : (line : ℕ → Line) (first n : ℕ) (lines : List ReadLine) → length lines ≡ n → ((i : ℕ) → i < n → line_of (get_or lines i no_line) ≡ line (first + i)) → AreLines line (range_with_len first n) lines
+lines_along : (line : ℕ → Line) (first n : ℕ) (lines : List ReadLine) → length lines ≡ n → ((i : ℕ) → i < n → line_of_read (get_or lines i no_line) ≡ line (first + i)) → AreLines line (range_with_len first n) lines
 lines_along line first zero [] e each = tt
 lines_along line first zero (l ∷ lines) e each = absurd (omega (arith, e))
 lines_along line first (suc n) [] e each = absurd (omega (arith, e))
@@ -235,7 +235,7 @@ has_lines h content slice precinct q r packets ranges are = all-indexed (HasLine
         place : PacketPlace
         place = (get_or packets n no_packet).place
 
-        each : (i : ℕ) → i < band_number h place → line_of (get_or (get_or packets n no_packet).lines i no_line) ≡ coded_line h now 0 (first_band h place + i) place.line
+        each : (i : ℕ) → i < band_number h place → line_of_read (get_or (get_or packets n no_packet).lines i no_line) ≡ coded_line h now 0 (first_band h place + i) place.line
         each i few =
             let band : ℕ = first_band h place + i in
             let has : Contains (packet_bands h place) band = in_range (first_band h place) (band_number h place) band (omega arith) (omega (arith, few)) in

@@ -14,20 +14,22 @@ use Rattle.xs_params.specs.declared.header.Header.{Header}
 use Rattle.xs_signal.specs.Lines.{entries_of}
 use Rattle.xs_faults.specs.declared.PrecinctFault.{PrecinctFault}
 use Rattle.xs_faults.specs.declared.PrecinctFault.TheVariants as precinct_fault
-use Rattle.xs_grammar.specs.Geometry.{bands_of, band_height_of, packet_bands, packets_of, precinct_count, precincts_of, slice_count}
+use Rattle.xs_params.specs.Geometry.{bands_of, band_height_of, packet_bands, packets_of, precinct_count, precincts_of, slice_count}
 use Rattle.xs_grammar.specs.Precinct.{Content, IsPrecinct, precinct_of}
 use Rattle.xs_grammar.specs.Slice.{slice_head}
-use Rattle.xs_geometry.specs.Kept.{IsGeometry}
+use Rattle.xs_params.specs.Accepted.{IsGeometry}
 use Rattle.xs_geometry.specs.SliceLines.{BandLines, row_at, HasLine, AreLinesOf, first_line_of, end_line_of}
 use Rattle.xs_geometry.specs.Lines.{IsLineOf}
 use Rattle.xs_geometry.specs.Places.{packet_at}
 use Rattle.xs_geometry.proofs.PlaceFacts.{range_has, in_range}
 use Rattle.xs_geometry.proofs.PacketLines.{packets_have_lines, line_in_one_packet, slice_has_lines}
 use Rattle.xs_decoding.specs.Dequantised.{dequantised_rows}
-use Rattle.xs_decoding.specs.Built.{IsBuiltPrecinct, IsUnbuilt}
-use Rattle.xs_decoding.specs.Laws.{PrecinctEnds, PrecinctIsLocal}
+use Rattle.xs_decoding.specs.Built.{IsBuiltPrecinct, IsUnbuilt, IsWholePrecinct}
+use Rattle.xs_decoding.specs.Laws.{PrecinctEnds}
+use Rattle.xs_decoding.proofs.Precincts.{BuiltIsLocal}
 use Rattle.xs_slice_read.specs.Precinct.{IsLineAmong, IsPrecinctRead, BeginWithPrecinct, IsPrecinctRefusal}
-use Rattle.xs_slice_read.specs.Slice.{slice_fault_of, IsSliceRead, BeginWithNoSlice, IsUnbuiltIn, IsSliceRefusal}
+use Rattle.xs_slice_read.specs.Slice.{slice_fault_of, IsSliceRead, BeginWithNoSlice, IsStoppedIn, IsSliceRefusal}
+use Rattle.xs_slice_read.proofs.Precincts.{whole_begins}
 use Rattle.xs_slice_read.proofs.PlainPrecincts.{of-contained, precinct_is, IsInPrecinct, packets_inside, precinct_spelled, precinct_begins}
 use Rattle.xs_slice_read.proofs.Rows.{with_precinct, AreReadAt, are_read, has_lines, agree_elsewhere, q_here, r_here, same_rows, lines_shown}
 
@@ -111,7 +113,7 @@ between h slice rows band line ranges are inside from to = (there, record { low 
 
 -- One more precinct
 
-pub so_far_more : (h : Header) (slice : ℕ) (rows new : List BandLines) (bytes : List ℕ) (place precinct size : ℕ) → PrecinctIsLocal → h.signs_apart ≡ false → IsGeometry h → slice < slice_count h
+pub so_far_more : (h : Header) (slice : ℕ) (rows new : List BandLines) (bytes : List ℕ) (place precinct size : ℕ) → BuiltIsLocal → h.signs_apart ≡ false → IsGeometry h → slice < slice_count h
     → slice * h.hsl ≤ precinct → precinct < min ((slice + 1) * h.hsl) (precinct_count h) → AreLinesOf h slice rows → AreLinesOf h slice new
     → SliceSoFar h slice rows bytes place precinct → IsPrecinctRead h precinct rows new (drop place bytes) size → SliceSoFar h slice new bytes (place + size) (precinct + 1)
 so_far_more h slice rows new bytes place precinct size local apart ranges slice_there low high were are so read = record {
@@ -142,7 +144,7 @@ so_far_more h slice rows new bytes place precinct size local apart ranges slice_
         (range-all (λ k. (l : List ℕ) → IsBuiltPrecinct h so.content k l → IsBuiltPrecinct h now k l) (slice * h.hsl) (precinct - slice * h.hsl)
         (λ k from to l built.
         let other : k ≢ precinct = λ e. absurd (omega (arith, e, to, low)) in
-        local h so.content now k l ranges.nly.1 (agree_elsewhere h so.content precinct read.q read.r read.packets k other) built)) so.spelled
+        local h so.content now k l (omega (arith, ranges.nly)) (agree_elsewhere h so.content precinct read.q read.r read.packets k other) built)) so.spelled
 
     -- a line of another precinct is not one of this
     none : (band line : ℕ) → precinct_of h band line < precinct → IsLineAmong h (packets_of h precinct) band line → ⊥
@@ -255,9 +257,9 @@ no_slice_after h slice rows bytes place precinct ends apart ranges low high so n
     tail : drop place bytes ≡ b.0 ++ (b.1 ++ rest)
     tail = rests ∙ ap (λ l. l ++ rest) b.2 ∙ append_assoc b.0 b.1 rest
 
-pub unbuilt_after : (h : Header) (slice : ℕ) (rows : List BandLines) (bytes : List ℕ) (place precinct packet : ℕ) → slice * h.hsl ≤ precinct → precinct < min ((slice + 1) * h.hsl) (precinct_count h)
-    → SliceSoFar h slice rows bytes place precinct → IsUnbuilt h precinct (drop place bytes) packet → IsUnbuiltIn h slice bytes precinct packet
-unbuilt_after h slice rows bytes place precinct packet low high so unbuilt = record {
+pub stopped_after : (h : Header) (slice : ℕ) (rows : List BandLines) (bytes : List ℕ) (place precinct : ℕ) (stops : List ℕ → Type 0) → slice * h.hsl ≤ precinct → precinct < min ((slice + 1) * h.hsl) (precinct_count h)
+    → SliceSoFar h slice rows bytes place precinct → stops (drop place bytes) → IsStoppedIn h slice bytes precinct stops
+stopped_after h slice rows bytes place precinct stops low high so stopped = record {
   content = so.content;
   precincts = so.front;
   rest = drop place bytes;
@@ -266,13 +268,16 @@ unbuilt_after h slice rows bytes place precinct packet low high so unbuilt = rec
   later = range_with_len (precinct + 1) (min ((slice + 1) * h.hsl) (precinct_count h) - (precinct + 1));
   order = split_at (slice * h.hsl) precinct (min ((slice + 1) * h.hsl) (precinct_count h)) low high;
   spelled = so.spelled;
-  unbuilt = unbuilt;
+  stopped = stopped;
 }
 
 pub precinct_refused : (h : Header) (slice : ℕ) (rows : List BandLines) (bytes : List ℕ) (place precinct : ℕ) (f : PrecinctFault) → PrecinctEnds → h.signs_apart ≡ false → IsGeometry h → slice * h.hsl ≤ precinct
     → precinct < min ((slice + 1) * h.hsl) (precinct_count h) → SliceSoFar h slice rows bytes place precinct → IsPrecinctRefusal h precinct (drop place bytes) f → IsSliceRefusal h slice bytes (slice_fault_of precinct f)
-precinct_refused h slice rows bytes place precinct precinct_fault.Truncated ends apart ranges low high so none = no_slice_after h slice rows bytes place precinct ends apart ranges low high so none
+precinct_refused h slice rows bytes place precinct precinct_fault.Truncated ends apart ranges low high so cut = (
+  no_slice_after h slice rows bytes place precinct ends apart ranges low high so (λ begins. cut (whole_begins h precinct (drop place bytes) begins)),
+  stopped_after h slice rows bytes place precinct (λ rest. IsWholePrecinct h rest → ⊥) low high so cut,
+)
 precinct_refused h slice rows bytes place precinct (precinct_fault.Overrun packet part) ends apart ranges low high so none = no_slice_after h slice rows bytes place precinct ends apart ranges low high so none
 precinct_refused h slice rows bytes place precinct (precinct_fault.Count packet value) ends apart ranges low high so none = no_slice_after h slice rows bytes place precinct ends apart ranges low high so none
-precinct_refused h slice rows bytes place precinct (precinct_fault.Unbuilt packet) ends apart ranges low high so none = unbuilt_after h slice rows bytes place precinct packet low high so none
+precinct_refused h slice rows bytes place precinct (precinct_fault.Unbuilt packet) ends apart ranges low high so unbuilt = stopped_after h slice rows bytes place precinct (λ rest. IsUnbuilt h precinct rest packet) low high so unbuilt
 precinct_refused h slice rows bytes place precinct precinct_fault.Memory ends apart ranges low high so none = tt

@@ -8,11 +8,11 @@ use Rattle.xs_layout.specs.declared.Weight.{Weight}
 use Rattle.xs_layout.specs.Geometry.{components_of, groups_of, PacketPlace}
 use Rattle.xs_layout.specs.Weighting.{truncation_of}
 use Rattle.xs_params.specs.declared.header.Header.{Header}
-use Rattle.xs_grammar.specs.Geometry.{bands_of, band_width_of}
+use Rattle.xs_params.specs.Geometry.{bands_of, band_width_of}
 use Rattle.xs_grammar.specs.Precinct.{weight_of}
 use Rattle.xs_read_lines.specs.ReadLine.{Buffered}
 use Rattle.xs_slice_read.specs.Packet.{known_of}
-use Rattle.xs_slice_read.specs.Precinct.{band_groups, known_bands, known_lines, part_of}
+use Rattle.xs_slice_read.specs.Precinct.{group_counts, known_bands, known_lines, part_of}
 use Rattle.xs_slice_read.proofs.Placed.{map_part, part_of_range}
 use Rattle.std.specs.List.{range_with_len}
 
@@ -20,17 +20,17 @@ use Rattle.std.specs.List.{range_with_len}
 abbrev pub known_at : Header → ℕ → ℕ → ℕ → ℕ × ℕ
 known_at h q r band = (groups_of (band_width_of h band), truncation_of q r (weight_of h band))
 
-pub bands_counted : (h : Header) (bands : List Buffered) → map (λ (band : Buffered). band.groups) bands ≡ band_groups h → length bands ≡ bands_of h
+pub bands_counted : (h : Header) (bands : List Buffered) → map (λ (band : Buffered). band.groups) bands ≡ group_counts h → length bands ≡ bands_of h
 bands_counted h bands e =
     sym (length-map bands (λ (band : Buffered). band.groups)) ∙ ap length e ∙ length-map (upto (bands_of h)) (λ band. groups_of (band_width_of h band)) ∙ length-range_with_len 0 (bands_of h)
 
-pub groups_at : (h : Header) (bands : List Buffered) (k : ℕ) (d : Buffered) → map (λ (band : Buffered). band.groups) bands ≡ band_groups h → k < length bands → (get_or bands k d).groups ≡ groups_of (band_width_of h k)
+pub groups_at : (h : Header) (bands : List Buffered) (k : ℕ) (d : Buffered) → map (λ (band : Buffered). band.groups) bands ≡ group_counts h → k < length bands → (get_or bands k d).groups ≡ groups_of (band_width_of h k)
 groups_at h bands k d e there =
     let inside : k < bands_of h = omega (arith, there, bands_counted h bands e) in
     let here : 0 + k ≡ k = omega arith in
     sym (get_or-map (λ (band : Buffered). band.groups) bands k d 0 there) ∙ ap (λ l. get_or l k 0) e ∙ get_or-map-range_with_len (λ band. groups_of (band_width_of h band)) 0 (bands_of h) k k 0 inside here
 
-pub started_more : (h : Header) (q r : ℕ) (bands : List Buffered) (k : ℕ) (d b : Buffered) (w : Weight) → map (λ (band : Buffered). band.groups) bands ≡ band_groups h → k < length bands → length h.weights ≡ bands_of h
+pub started_more : (h : Header) (q r : ℕ) (bands : List Buffered) (k : ℕ) (d b : Buffered) (w : Weight) → map (λ (band : Buffered). band.groups) bands ≡ group_counts h → k < length bands → length h.weights ≡ bands_of h
     → b.groups ≡ (get_or bands k d).groups → b.truncation ≡ truncation_of q r (get_or h.weights k w) → map known_of (take k bands) ≡ map (known_at h q r) (upto k) → map known_of (take (k + 1) (set bands k b)) ≡ map (known_at h q r) (upto (k + 1))
 started_more h q r bands k d b w e there weights groups truncation known =
     let more = take_more_set bands k b there in
@@ -51,7 +51,7 @@ groups_more h bands new band groups b e f g =
     ∙ sym (map-append (λ band. groups_of (band_width_of h band)) (upto band) ((0 + band) ∷ [])) ∙ ap (map (λ band. groups_of (band_width_of h band))) (sym (range-more 0 band))
 
 -- the code groups of bands of which more is known
-pub groups_known : (h : Header) (q r : ℕ) (bands : List Buffered) → map known_of bands ≡ known_bands h q r → map (λ (band : Buffered). band.groups) bands ≡ band_groups h
+pub groups_known : (h : Header) (q r : ℕ) (bands : List Buffered) → map known_of bands ≡ known_bands h q r → map (λ (band : Buffered). band.groups) bands ≡ group_counts h
 groups_known h q r bands e = firsts bands ∙ ap (map (λ (k : ℕ × ℕ). k.0)) e ∙ seconds (upto (bands_of h))
   where
     firsts : (bands : List Buffered) → map (λ (band : Buffered). band.groups) bands ≡ map (λ (k : ℕ × ℕ). k.0) (map known_of bands)

@@ -8,9 +8,9 @@ use Rattle.xs_lists.specs.Spelling.{SpellsEach, SpellsPadded}
 use Rattle.xs_lists.proofs.Walk.{all-append}
 use Rattle.xs_layout.specs.Geometry.{PacketPlace}
 use Rattle.xs_params.specs.declared.header.Header.{Header}
-use Rattle.xs_grammar.specs.Geometry.{bands_of, packet_bands, packets_of, precincts_of, slice_count}
+use Rattle.xs_params.specs.Geometry.{bands_of, packet_bands, packets_of, precincts_of, slice_count}
 use Rattle.xs_grammar.specs.Precinct.{Content, coded_line}
-use Rattle.xs_geometry.specs.Kept.{IsGeometry}
+use Rattle.xs_params.specs.Accepted.{IsGeometry}
 use Rattle.xs_faults.specs.declared.PrecinctFault.{PrecinctFault}
 use Rattle.xs_faults.specs.declared.PrecinctFault.TheVariants as fault
 use Rattle.xs_decoding.specs.Built.{precinct_head_size, stated_size, q_at, r_at, mode_at, body_at, IsBuiltPacket, IsUnbuilt, HasRawCounts}

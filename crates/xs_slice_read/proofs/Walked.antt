@@ -13,8 +13,8 @@ use Rattle.xs_lists.proofs.Walk.{all-append}
 use Rattle.xs_layout.specs.declared.Quant.{Quant}
 use Rattle.xs_layout.specs.Geometry.{PacketPlace}
 use Rattle.xs_params.specs.declared.header.Header.{Header}
-use Rattle.xs_grammar.specs.Geometry.{bands_of, packet_bands, packets_of, precincts_of, precinct_count, slice_count}
-use Rattle.xs_geometry.specs.Kept.{IsGeometry}
+use Rattle.xs_params.specs.Geometry.{bands_of, packet_bands, packets_of, precincts_of, precinct_count, slice_count}
+use Rattle.xs_params.specs.Accepted.{IsGeometry}
 use Rattle.xs_geometry.specs.Places.{no_place, packet_at}
 use Rattle.xs_geometry.specs.Lines.{HoldsLine}
 use Rattle.xs_geometry.specs.SliceLines.{BandLines, AreLinesOf, HasLine, row_at}
@@ -24,7 +24,7 @@ use Rattle.xs_faults.specs.declared.PrecinctFault.{PrecinctFault}
 use Rattle.xs_faults.specs.declared.PrecinctFault.TheVariants as fault
 use Rattle.xs_read_lines.specs.ReadLine.{Buffered, ReadLine}
 use Rattle.xs_slice_read.specs.Packet.{HasRawHead, IsWholePacket, BeginWithPacket, IsPacketRefusal}
-use Rattle.xs_slice_read.specs.Precinct.{band_groups, known_lines, no_band, ReadPacket, IsReadPacket, places_of, HoldRows, HoldsPacket, IsLineIn, IsLineAmong, IsPacketPut, ArePacketsRead, BeginWithPackets, HasRawAfter, ArePacketsRefused}
+use Rattle.xs_slice_read.specs.Precinct.{group_counts, known_lines, no_band, ReadPacket, IsReadPacket, places_of, HoldRows, HoldsPacket, IsLineIn, IsLineAmong, IsPacketPut, ArePacketsRead, BeginWithPackets, HasRawAfter, ArePacketsRefused}
 use Rattle.xs_slice_read.proofs.Parts.{one_end, raw_not_whole}
 use Rattle.xs_slice_read.proofs.Started.{bands_counted, groups_at}
 
@@ -81,7 +81,7 @@ lines_there h slice precinct number rows place ranges are within inside is band 
     subst (λ (p : PacketPlace). HasLine rows band p.line) (sym is) (slice_has_packets h slice rows precinct number band ranges are within inside (subst (λ p. Contains (packet_bands h p) band) is has))
 
 pub rows_fit : (h : Header) (slice precinct number : ℕ) (rows : List BandLines) (place : PacketPlace) (bands : List Buffered) → IsGeometry h → AreLinesOf h slice rows → Contains (precincts_of h slice) precinct
-    → number < length (packets_of h precinct) → place ≡ packet_at h precinct number → map (λ (band : Buffered). band.groups) bands ≡ band_groups h
+    → number < length (packets_of h precinct) → place ≡ packet_at h precinct number → map (λ (band : Buffered). band.groups) bands ≡ group_counts h
     → (band : ℕ) → Contains (packet_bands h place) band → length (row_at rows band place.line) ≤ 4 * (get_or bands band no_band).groups
 rows_fit h slice precinct number rows place bands ranges are within inside is groups band has =
     let there : band < bands_of h = (packets_have_lines h precinct number band ranges inside (subst (λ p. Contains (packet_bands h p) band) is has)).band_there in

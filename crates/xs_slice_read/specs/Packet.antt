@@ -1,14 +1,14 @@
 -- A packet as it is read, with the lines of its bands: 'Slice, precinct and packet'.
 use Rattle.std.specs.Prelude.{◌≡◌, ℕ, ◌+◌, ◌*◌, ◌≤◌, ⊤, Bool, false, if◌then◌else◌, List, [], ◌∷◌, ◌++◌, length, map, take, drop}
 use Rattle.std.specs.List.{flat_map, sum_by, AllByRecursion}
-use Rattle.xs_lists.specs.Bits.{bits_of_bytes, bits_of_fields, HaveRoom}
+use Rattle.xs_lists.specs.Bits.{bits_of_bytes, bits_of_fields, FieldsFit}
 use Rattle.xs_lists.specs.Spelling.{BeginsWith, BeginsAs, SpellsEach}
 use Rattle.xs_layout.specs.declared.Quant.{Quant}
 use Rattle.xs_faults.specs.declared.PrecinctFault.{PrecinctFault}
 use Rattle.xs_faults.specs.declared.PrecinctFault.TheVariants as fault
 use Rattle.xs_spelling.specs.Data.{SpellsData}
 use Rattle.xs_grammar.specs.Packet.{packet_fields}
-use Rattle.xs_read_lines.specs.ReadLine.{AreCounts, AreValuesOf, Buffered, ReadLine, counts_bits, line_of, numbers_size}
+use Rattle.xs_read_lines.specs.ReadLine.{AreReadCounts, AreValuesOf, Buffered, ReadLine, counts_bits, line_of_read, line_numbers_size}
 
 -- the bytes of a packet header
 abbrev pub head_bytes : Bool → ℕ
@@ -27,17 +27,17 @@ abbrev pub line_counts : ReadLine → List ℕ
 line_counts line = counts_bits line.truncation line.counts
 
 abbrev pub line_size : ReadLine → ℕ
-line_size line = numbers_size line.truncation line.counts
+line_size line = line_numbers_size line.truncation line.counts
 
 abbrev pub HasRange : ReadLine → Type 0
-HasRange line = AreCounts line.truncation line.counts
+HasRange line = AreReadCounts line.truncation line.counts
 
 -- the counts that buffers hold, as lines without numbers
 abbrev pub counted_line : Buffered → ReadLine
 counted_line band = record { truncation = band.truncation; counts = band.counts; numbers = [] }
 
 -- a buffer holds a line: its counts, and the values that stand for its numbers
-pub record HoldsLine (kind : Quant) (band : Buffered) (line : ReadLine) : Type 0 where
+pub record BuffersLine (kind : Quant) (band : Buffered) (line : ReadLine) : Type 0 where
   pub truncation : band.truncation ≡ line.truncation
   pub counts : band.counts ≡ line.counts
   pub groups : length line.counts ≡ band.groups
@@ -47,7 +47,7 @@ pub record HoldsLine (kind : Quant) (band : Buffered) (line : ReadLine) : Type 0
 -- buffers hold lines, one by one
 abbrev pub HoldLines : Quant → List Buffered → List ReadLine → Type 0
 HoldLines kind [] [] = ⊤
-HoldLines kind (band ∷ bands) (line ∷ lines) = HoldsLine kind band line × HoldLines kind bands lines
+HoldLines kind (band ∷ bands) (line ∷ lines) = BuffersLine kind band line × HoldLines kind bands lines
 HoldLines kind [] (line ∷ lines) = ⊥
 HoldLines kind (band ∷ bands) [] = ⊥
 
@@ -56,17 +56,17 @@ HoldLines kind (band ∷ bands) [] = ⊥
 -- the header of a packet whose counts are not raw, with these sizes of its parts
 pub record IsPacketHead (long : Bool) (planes counts : ℕ) (head : List ℕ) : Type 0 where
   pub stated : ℕ
-  pub room : HaveRoom (packet_fields long false planes counts stated)
+  pub room : FieldsFit (packet_fields long false planes counts stated)
   pub spelled : bits_of_bytes head ≡ bits_of_fields (packet_fields long false planes counts stated)
 
 -- the bytes are the counts and the data of lines
 pub record ArePartsOf (lines : List ReadLine) (counts planes : List ℕ) : Type 0 where
   pub range : AllByRecursion HasRange lines
   pub counted : BeginsWith (bits_of_bytes counts) (flat_map line_counts lines)
-  pub filled : BeginsAs (SpellsEach (λ line. SpellsData false (line_of line)) lines) (bits_of_bytes planes)
+  pub filled : BeginsAs (SpellsEach (λ line. SpellsData false (line_of_read line)) lines) (bits_of_bytes planes)
 
 -- the bytes are a packet of lines: header, counts and data
-pub record IsPacketOf (long : Bool) (lines : List ReadLine) (bytes : List ℕ) : Type 0 where
+pub record IsPacketOfLines (long : Bool) (lines : List ReadLine) (bytes : List ℕ) : Type 0 where
   pub head : List ℕ
   pub counts : List ℕ
   pub planes : List ℕ
@@ -79,7 +79,7 @@ pub record IsPacketRead (long : Bool) (kind : Quant) (bands : List Buffered) (by
   pub lines : List ReadLine
   pub held : HoldLines kind bands lines
   pub enough : n ≤ length bytes
-  pub packet : IsPacketOf long lines (take n bytes)
+  pub packet : IsPacketOfLines long lines (take n bytes)
 
 -- a front of the bytes, with parts of these sizes, is counts and data of lines that the buffers hold
 pub record ArePartsRead (kind : Quant) (counts planes : ℕ) (bands : List Buffered) (bytes : List ℕ) : Type 0 where
@@ -147,4 +147,4 @@ BeginWithNoLines known bits = (lines : List ReadLine) → map known_line lines �
 pub record AreLinesRead (kind : Quant) (bands : List Buffered) (bits : List ℕ) : Type 0 where
   pub lines : List ReadLine
   pub held : HoldLines kind bands lines
-  pub spelled : BeginsAs (SpellsEach (λ line. SpellsData false (line_of line)) lines) bits
+  pub spelled : BeginsAs (SpellsEach (λ line. SpellsData false (line_of_read line)) lines) bits

@@ -1,7 +1,7 @@
 -- A precinct as it is read, packet by packet: 'Slice, precinct and packet'.
 use Rattle.std.specs.Prelude.{◌≡◌, ◌≢◌, ℕ, zero, suc, ◌*◌, ◌≤◌, ◌<◌, ⊤, ℤ, List, [], ◌∷◌, ◌++◌, length, map, take, drop}
 use Rattle.std.specs.List.{AllByRecursion, Contains}
-use Rattle.xs_lists.specs.Bits.{bits_of_fields, HaveRoom}
+use Rattle.xs_lists.specs.Bits.{bits_of_fields, FieldsFit}
 use Rattle.xs_lists.specs.Spelling.{upto, BeginsAs, SpellsEach, SpellsPadded}
 use Rattle.xs_layout.specs.declared.Quant.{Quant}
 use Rattle.xs_layout.specs.Geometry.{components_of, groups_of, PacketPlace}
@@ -9,20 +9,20 @@ use Rattle.xs_layout.specs.Weighting.{truncation_of}
 use Rattle.xs_params.specs.declared.header.Header.{Header}
 use Rattle.xs_faults.specs.declared.PrecinctFault.{PrecinctFault}
 use Rattle.xs_faults.specs.declared.PrecinctFault.TheVariants as fault
-use Rattle.xs_grammar.specs.Geometry.{bands_of, band_width_of, packet_bands, packets_of}
+use Rattle.xs_params.specs.Geometry.{bands_of, band_width_of, packet_bands, packets_of}
 use Rattle.xs_geometry.specs.SliceLines.{BandLines, HasLine, row_at}
 use Rattle.xs_grammar.specs.Precinct.{weight_of}
-use Rattle.xs_decoding.specs.Built.{mode_at, IsUnbuilt}
+use Rattle.xs_decoding.specs.Built.{mode_at, IsUnbuilt, IsWholePrecinct}
 use Rattle.xs_read_lines.specs.ReadLine.{AreValuesOf, Buffered, ReadLine}
-use Rattle.xs_slice_read.specs.Packet.{known_line, HasRawHead, IsPacketOf, IsWholePacket}
+use Rattle.xs_slice_read.specs.Packet.{known_line, HasRawHead, IsPacketOfLines, IsWholePacket}
 
 -- the fields of the header of a precinct of so many bands whose modes are 0
 abbrev pub plain_fields : ℕ → ℕ → ℕ → ℕ → List (ℕ × ℕ)
 plain_fields bands size q r = (24, size) ∷ (8, q) ∷ (8, r) ∷ map (λ _. (2, 0)) (upto bands)
 
 -- the code groups of each band
-abbrev pub band_groups : Header → List ℕ
-band_groups h = map (λ band. groups_of (band_width_of h band)) (upto (bands_of h))
+abbrev pub group_counts : Header → List ℕ
+group_counts h = map (λ band. groups_of (band_width_of h band)) (upto (bands_of h))
 
 -- what is known of each band's line by the header of a precinct
 abbrev pub known_bands : Header → ℕ → ℕ → List (ℕ × ℕ)
@@ -40,7 +40,7 @@ pub record ReadPacket : Type 0 where
 -- the bytes are a packet of its lines, of which this is known
 pub record IsReadPacket (h : Header) (q r : ℕ) (packet : ReadPacket) (bytes : List ℕ) : Type 0 where
   pub known : map known_line packet.lines ≡ known_lines h q r packet.place
-  pub spelled : IsPacketOf h.long_heads packet.lines bytes
+  pub spelled : IsPacketOfLines h.long_heads packet.lines bytes
 
 -- the places of packets
 abbrev pub places_of : List ReadPacket → List PacketPlace
@@ -52,7 +52,7 @@ pub record IsPrecinctOf (h : Header) (precinct q r : ℕ) (packets : List ReadPa
   pub body : List ℕ
   pub filler : List ℕ
   pub joined : bytes ≡ head ++ (body ++ filler)
-  pub room : HaveRoom (plain_fields (bands_of h) (length (body ++ filler)) q r)
+  pub room : FieldsFit (plain_fields (bands_of h) (length (body ++ filler)) q r)
   pub headed : SpellsPadded head (bits_of_fields (plain_fields (bands_of h) (length (body ++ filler)) q r))
   pub order : places_of packets ≡ packets_of h precinct
   pub spelled : SpellsEach (IsReadPacket h q r) packets body
@@ -106,7 +106,7 @@ pub record IsPacketPut (h : Header) (place : PacketPlace) (known : List (ℕ × 
   pub known_lines : map known_line lines ≡ known
   pub held : HoldRows h.quant new place.line (packet_bands h place) lines
   pub enough : n ≤ length bytes
-  pub packet : IsPacketOf h.long_heads lines (take n bytes)
+  pub packet : IsPacketOfLines h.long_heads lines (take n bytes)
   pub elsewhere : (band line : ℕ) → HasLine old band line → (IsLineIn h place band line → ⊥) → row_at new band line ≡ row_at old band line
 
 -- packets of these places begin the bytes; the rows hold them, and all other rows are as they were
@@ -159,7 +159,7 @@ pub record BeginWithPrecinct (h : Header) (precinct : ℕ) (bytes : List ℕ) : 
   pub body : List ℕ
   pub rest : List ℕ
   pub joined : bytes ≡ head ++ (body ++ rest)
-  pub room : HaveRoom (plain_fields (bands_of h) (length body) q r)
+  pub room : FieldsFit (plain_fields (bands_of h) (length body) q r)
   pub headed : SpellsPadded head (bits_of_fields (plain_fields (bands_of h) (length body) q r))
   pub packets : BeginWithPackets h q r (packets_of h precinct) body
 
@@ -167,7 +167,7 @@ pub record BeginWithPrecinct (h : Header) (precinct : ℕ) (bytes : List ℕ) : 
 abbrev pub IsPrecinctRefusal : Header → ℕ → List ℕ → PrecinctFault → Type 0
 IsPrecinctRefusal h precinct bytes (fault.Overrun packet part) = BeginWithPrecinct h precinct bytes → ⊥
 IsPrecinctRefusal h precinct bytes (fault.Count packet value) = BeginWithPrecinct h precinct bytes → ⊥
-IsPrecinctRefusal h precinct bytes fault.Truncated = BeginWithPrecinct h precinct bytes → ⊥
+IsPrecinctRefusal h precinct bytes fault.Truncated = IsWholePrecinct h bytes → ⊥
 IsPrecinctRefusal h precinct bytes (fault.Unbuilt packet) = IsUnbuilt h precinct bytes packet
 IsPrecinctRefusal h precinct bytes fault.Memory = ⊤
 

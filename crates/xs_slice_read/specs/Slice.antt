@@ -7,12 +7,12 @@ use Rattle.xs_faults.specs.declared.PrecinctFault.{PrecinctFault}
 use Rattle.xs_faults.specs.declared.PrecinctFault.TheVariants as precinct_fault
 use Rattle.xs_faults.specs.declared.SliceFault.{SliceFault}
 use Rattle.xs_faults.specs.declared.SliceFault.TheVariants as fault
-use Rattle.xs_grammar.specs.Geometry.{bands_of, precincts_of}
+use Rattle.xs_params.specs.Geometry.{bands_of, precincts_of}
 use Rattle.xs_grammar.specs.Precinct.{Content}
 use Rattle.xs_grammar.specs.Slice.{slice_head}
 use Rattle.xs_geometry.specs.SliceLines.{BandLines, row_at, first_line_of, end_line_of, AreLinesOf}
 use Rattle.xs_decoding.specs.Dequantised.{dequantised_rows}
-use Rattle.xs_decoding.specs.Built.{IsBuiltPrecinct, IsBuiltSlice, IsUnbuilt}
+use Rattle.xs_decoding.specs.Built.{IsBuiltPrecinct, IsBuiltSlice, IsUnbuilt, IsWholePrecinct}
 
 -- the rows of a slice are those of a content
 abbrev pub ShowSlice : Header → Content → ℕ → List BandLines → Type 0
@@ -39,8 +39,8 @@ slice_fault_of precinct (precinct_fault.Unbuilt packet) = fault.Precinct precinc
 abbrev pub BeginWithNoSlice : Header → ℕ → List ℕ → Type 0
 BeginWithNoSlice h slice bytes = (content : Content) (part rest : List ℕ) → bytes ≡ part ++ rest → IsBuiltSlice h content slice part → ⊥
 
--- after the slice header and some precincts a precinct stands that is of a form that is not read yet
-pub record IsUnbuiltIn (h : Header) (slice : ℕ) (bytes : List ℕ) (precinct packet : ℕ) : Type 0 where
+-- the slice header and some precincts, and what stands where the next one begins
+pub record IsStoppedIn (h : Header) (slice : ℕ) (bytes : List ℕ) (precinct : ℕ) (stops : List ℕ → Type 0) : Type 0 where
   pub content : Content
   pub precincts : List ℕ
   pub rest : List ℕ
@@ -49,13 +49,21 @@ pub record IsUnbuiltIn (h : Header) (slice : ℕ) (bytes : List ℕ) (precinct p
   pub later : List ℕ
   pub order : precincts_of h slice ≡ earlier ++ (precinct ∷ later)
   pub spelled : SpellsEach (IsBuiltPrecinct h content) earlier precincts
-  pub unbuilt : IsUnbuilt h precinct rest packet
+  pub stopped : stops rest
+
+-- that is a precinct of a form that is not read
+abbrev pub IsUnbuiltIn : Header → ℕ → List ℕ → ℕ → ℕ → Type 0
+IsUnbuiltIn h slice bytes precinct packet = IsStoppedIn h slice bytes precinct (λ rest. IsUnbuilt h precinct rest packet)
+
+-- or less than what its header says
+abbrev pub IsCutIn : Header → ℕ → List ℕ → ℕ → Type 0
+IsCutIn h slice bytes precinct = IsStoppedIn h slice bytes precinct (λ rest. IsWholePrecinct h rest → ⊥)
 
 -- why a slice is refused; want of memory is free, and never inside another fault
 abbrev pub IsSliceRefusal : Header → ℕ → List ℕ → SliceFault → Type 0
 IsSliceRefusal h slice bytes fault.Short = (length bytes < 6) × BeginWithNoSlice h slice bytes
 IsSliceRefusal h slice bytes fault.Head = BeginWithNoSlice h slice bytes
-IsSliceRefusal h slice bytes (fault.Precinct precinct precinct_fault.Truncated) = BeginWithNoSlice h slice bytes
+IsSliceRefusal h slice bytes (fault.Precinct precinct precinct_fault.Truncated) = BeginWithNoSlice h slice bytes × IsCutIn h slice bytes precinct
 IsSliceRefusal h slice bytes (fault.Precinct precinct (precinct_fault.Overrun packet part)) = BeginWithNoSlice h slice bytes
 IsSliceRefusal h slice bytes (fault.Precinct precinct (precinct_fault.Count packet value)) = BeginWithNoSlice h slice bytes
 IsSliceRefusal h slice bytes (fault.Precinct precinct (precinct_fault.Unbuilt packet)) = IsUnbuiltIn h slice bytes precinct packet

@@ -6,3 +6,4 @@ mod precinct;
 mod slice;
 
 pub use slice::read_front;
+pub use xs_faults::{Part, PrecinctFault, SliceFault};

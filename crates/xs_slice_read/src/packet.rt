@@ -2,7 +2,7 @@
 ghost use Rattle.std.specs.Prelude.{◌≡◌, ◌≢◌, ℕ, ◌+◌, ◌*◌, ◌<◌, ◌≤◌, ◌^◌, ◌++◌, true, false, length, map, take, drop, if◌then◌else◌, IfOk, IfErr, OnOk, OnErr, Err};
 ghost use Rattle.std.specs.List.{flat_map, sum_by, AllByRecursion};
 ghost use Rattle.xs_bits.specs.Reading.{left};
-ghost use Rattle.xs_lists.specs.Bits.{bits_of, bits_of_bytes, bits_of_fields, HaveRoom};
+ghost use Rattle.xs_lists.specs.Bits.{bits_of, bits_of_bytes, bits_of_fields, FieldsFit};
 ghost use Rattle.xs_lists.specs.Spelling.{BeginsWith};
 ghost use Rattle.xs_grammar.specs.Packet.{packet_fields};
 ghost use Rattle.xs_read_lines.specs.ReadLine.{HasCounts};
@@ -61,7 +61,7 @@ pub fn next(input: &mut BitReader, width: u32) -> u32
 fn read_head(bytes: &[u8], long: bool) -> Result<Head, Ended>
     requires few { length bytes.now < 2 ^ 28 }
     ensures whole { OnOk result (head_bytes long ≤ length bytes.now) }
-    ensures room { IfOk result (λ head. HaveRoom (packet_fields long head.raw head.planes head.counts head.signs)) }
+    ensures room { IfOk result (λ head. FieldsFit (packet_fields long head.raw head.planes head.counts head.signs)) }
     ensures spelled { IfOk result (λ head. bits_of_bytes (take (head_bytes long) bytes.now) ≡ bits_of_fields (packet_fields long head.raw head.planes head.counts head.signs)) }
     ensures ended { OnErr result (length bytes.now < head_bytes long) }
 {

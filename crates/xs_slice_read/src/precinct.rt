@@ -2,18 +2,17 @@
 ghost use Rattle.std.specs.Prelude.{◌≡◌, ◌≢◌, ◌⊎◌, ℕ, ◌+◌, ◌*◌, ◌/◌, ◌<◌, ◌≤◌, ◌^◌, ◌++◌, ◌↔◌, true, false, length, map, take, drop, slice_index_or, IfOk, IfErr, OnOk, OnErr, Err};
 ghost use Rattle.std.specs.List.{flat_map, Contains};
 ghost use Rattle.xs_bits.specs.Reading.{left};
-ghost use Rattle.xs_lists.specs.Bits.{bits_of, bits_of_bytes, bits_of_fields, bytes_for, HaveRoom};
+ghost use Rattle.xs_lists.specs.Bits.{bits_of, bits_of_bytes, bits_of_fields, bytes_for, FieldsFit};
 ghost use Rattle.xs_lists.specs.Packing.{number_of};
 ghost use Rattle.xs_lists.specs.Spelling.{upto, SpellsPadded};
 ghost use Rattle.xs_params.specs.declared.header.Header.{Header};
-ghost use Rattle.xs_grammar.specs.Geometry.{bands_of, packet_bands, packets_of, precinct_count, precincts_of};
-ghost use Rattle.xs_grammar.specs.Header.{IsAccepted};
-ghost use Rattle.xs_geometry.specs.Kept.{geometry_of};
+ghost use Rattle.xs_params.specs.Geometry.{bands_of, packet_bands, packets_of, precinct_count, precincts_of, geometry_of};
+ghost use Rattle.xs_params.specs.Accepted.{IsAccepted};
 ghost use Rattle.xs_geometry.specs.Places.{HasBands, place_of};
 ghost use Rattle.xs_geometry.specs.SliceLines.{AreLinesOf, HasLine, row_at};
-ghost use Rattle.xs_decoding.specs.Built.{HasBuiltValues, IsUnbuilt, stated_size};
+ghost use Rattle.xs_decoding.specs.Built.{HasBuiltValues, IsUnbuilt, IsWholePrecinct, stated_size};
 ghost use Rattle.xs_slice_read.specs.Packet.{known_of, HasRawHead, IsPacketRefusal};
-ghost use Rattle.xs_slice_read.specs.Precinct.{ArePacketsRead, ArePacketsRefused, HasModeAmong, HasRawAfter, IsPacketPut, IsPrecinctRead, IsPrecinctRefusal, band_groups, known_bands, no_band, part_of, plain_fields};
+ghost use Rattle.xs_slice_read.specs.Precinct.{ArePacketsRead, ArePacketsRefused, HasModeAmong, HasRawAfter, IsPacketPut, IsPrecinctRead, IsPrecinctRefusal, group_counts, known_bands, no_band, part_of, plain_fields};
 
 use crate::packet::{next, read_packet};
 use xs_bits::BitReader;
@@ -73,7 +72,7 @@ fn read_head(bytes: &[u8], bands: u32) -> Head
 // Begins the line of each band, at its truncation.
 fn start(header: &Header, q: u8, r: u8, bands: &mut [BandLine])
     requires count { length header.now.weights ≡ bands_of header.now }
-    requires groups { map (λ band. band.groups) bands.old ≡ band_groups header.now }
+    requires groups { map (λ band. band.groups) bands.old ≡ group_counts header.now }
     ensures known { map known_of bands.new ≡ known_bands header.now q r }
 {
     let weights = header.weights.as_slice();
@@ -97,12 +96,13 @@ pub fn read_precinct(
     requires built { HasBuiltValues header.now }
     requires geometry { geometry.now ≡ geometry_of header.now }
     requires there { precinct < precinct_count header.now }
-    requires groups { map (λ band. band.groups) bands.old ≡ band_groups header.now }
+    requires groups { map (λ band. band.groups) bands.old ≡ group_counts header.now }
     requires lines { (slice : ℕ) × AreLinesOf header.now slice rows.old × Contains (precincts_of header.now slice) precinct }
-    ensures groups { map (λ band. band.groups) bands.new ≡ band_groups header.now }
+    ensures groups { map (λ band. band.groups) bands.new ≡ group_counts header.now }
     ensures kept { (h : Header) (slice : ℕ) → AreLinesOf h slice rows.old → AreLinesOf h slice rows.new }
     ensures read { IfOk result (λ size. IsPrecinctRead header.now precinct rows.old rows.new bytes.now size) }
     ensures refused { IfErr result (IsPrecinctRefusal header.now precinct bytes.now) }
+    ensures cut { (IsWholePrecinct header.now bytes.now → ⊥) → result ≡ Err PrecinctFault.Truncated }
     ensures unbuilt { (packet : ℕ) → IsUnbuilt header.now precinct bytes.now packet → (result ≡ Err (PrecinctFault.Unbuilt packet)) ⊎ ((1 ≤ packet) × (result ≡ Err PrecinctFault.Memory)) }
 {
     let count = geometry.bands();
@@ -139,9 +139,9 @@ fn read_packets(
     requires accepted { IsAccepted header.now }
     requires geometry { geometry.now ≡ geometry_of header.now }
     requires there { precinct < precinct_count header.now }
-    requires groups { map (λ band. band.groups) bands.old ≡ band_groups header.now }
+    requires groups { map (λ band. band.groups) bands.old ≡ group_counts header.now }
     requires lines { (slice : ℕ) × AreLinesOf header.now slice rows.old × Contains (precincts_of header.now slice) precinct }
-    ensures groups { map (λ band. band.groups) bands.new ≡ band_groups header.now }
+    ensures groups { map (λ band. band.groups) bands.new ≡ group_counts header.now }
     ensures kept { (h : Header) (slice : ℕ) → AreLinesOf h slice rows.old → AreLinesOf h slice rows.new }
     ensures read { OnOk result (ArePacketsRead header.now head.q head.r (packets_of header.now precinct) rows.old rows.new body.now) }
     ensures refused { IfErr result (ArePacketsRefused header.now head.q head.r (packets_of header.now precinct) body.now) }

@@ -1,12 +1,12 @@
 //! A slice: its header, and its precincts.
 ghost use Rattle.std.specs.Prelude.{◌≡◌, ◌≢◌, ◌⊎◌, ℕ, ◌<◌, ◌≤◌, ◌^◌, ◌∷◌, ◌++◌, [], true, false, length, map, take, IfOk, IfErr, OnOk, Err};
 ghost use Rattle.xs_params.specs.declared.header.Header.{Header};
-ghost use Rattle.xs_grammar.specs.Geometry.{slice_count};
-ghost use Rattle.xs_grammar.specs.Header.{IsAccepted};
+ghost use Rattle.xs_params.specs.Geometry.{slice_count};
+ghost use Rattle.xs_params.specs.Accepted.{IsAccepted};
 ghost use Rattle.xs_grammar.specs.Slice.{slice_head};
 ghost use Rattle.xs_decoding.specs.Built.{HasBuiltValues};
-ghost use Rattle.xs_slice_read.specs.Precinct.{band_groups};
-ghost use Rattle.xs_slice_read.specs.Slice.{IsSliceRead, IsSliceRefusal, IsUnbuiltIn, slice_fault_of};
+ghost use Rattle.xs_slice_read.specs.Precinct.{group_counts};
+ghost use Rattle.xs_slice_read.specs.Slice.{IsCutIn, IsSliceRead, IsSliceRefusal, IsUnbuiltIn, slice_fault_of};
 
 use crate::precinct::read_precinct;
 use std::alloc::Global;
@@ -33,6 +33,8 @@ pub fn read_front(
     requires there { slice < slice_count header.now }
     ensures read { IfOk result (λ read. IsSliceRead header.now slice read.0 bytes.now read.1) }
     ensures refused { IfErr result (IsSliceRefusal header.now slice bytes.now) }
+    ensures short { length bytes.now < 6 → result ≡ Err SliceFault.Short }
+    ensures cut { (precinct : ℕ) → IsCutIn header.now slice bytes.now precinct → (result ≡ Err (SliceFault.Precinct precinct PrecinctFault.Truncated)) ⊎ (result ≡ Err SliceFault.Memory) }
     ensures unbuilt { (precinct packet : ℕ) → IsUnbuiltIn header.now slice bytes.now precinct packet → (result ≡ Err (SliceFault.Precinct precinct (PrecinctFault.Unbuilt packet))) ⊎ (result ≡ Err SliceFault.Memory) }
 {
     if bytes.len() < HEAD {
@@ -42,14 +44,8 @@ pub fn read_front(
         return Err(SliceFault::Head);
     }
     let geometry = Geometry::of(header);
-    let mut rows = match SliceRows::blank(alloc, &geometry, slice) {
-        Ok(rows) => rows,
-        Err(Memory) => return Err(SliceFault::Memory),
-    };
-    let mut bands = match band_lines(alloc, &geometry) {
-        Ok(bands) => bands,
-        Err(Memory) => return Err(SliceFault::Memory),
-    };
+    let mut rows = SliceRows::blank(alloc, &geometry, slice)?;
+    let mut bands = band_lines(alloc, &geometry)?;
     let (first, end) = geometry.slice_precincts(slice);
     let mut place = HEAD;
     'precincts: for precinct in first..end {
@@ -89,18 +85,12 @@ fn has_head(bytes: &[u8], slice: u32) -> bool
 
 // A buffer for the lines of each band.
 fn band_lines(alloc: Global, geometry: &Geometry) -> Result<Vec<BandLine>, Memory>
-    ensures groups { IfOk result (λ bands. map (λ band. band.groups) bands.items ≡ band_groups geometry.now) }
+    ensures groups { IfOk result (λ bands. map (λ band. band.groups) bands.items ≡ group_counts geometry.now) }
 {
     let mut bands = Vec::new(alloc);
     'bands: for band in 0..geometry.bands() {
-        let line = match BandLine::blank(alloc, (geometry.band_width(band) + 3) / 4) {
-            Ok(line) => line,
-            Err(Memory) => return Err(Memory),
-        };
-        match add(&mut bands, line) {
-            Ok(()) => {}
-            Err(Memory) => return Err(Memory),
-        }
+        let line = BandLine::blank(alloc, (geometry.band_width(band) + 3) / 4)?;
+        add(&mut bands, line)?;
     }
     Ok(bands)
 }
@@ -109,8 +99,5 @@ fn band_lines(alloc: Global, geometry: &Geometry) -> Result<Vec<BandLine>, Memor
 fn add(bands: &mut Vec<BandLine>, band: BandLine) -> Result<(), Memory>
     ensures added { OnOk result (bands.new.items ≡ bands.old.items ++ band ∷ []) }
 {
-    match bands.push(band) {
-        Ok(()) => Ok(()),
-        Err(_) => Err(Memory),
-    }
+    bands.push(band).map_err(|_| Memory)
 }

@@ -8,7 +8,7 @@ use Rattle.std.proofs.lemmas.Grind.{get_or-set_at}
 use Rattle.std.proofs.lemmas.Nat.{pow-add, pow_pos}
 use Rattle.xs_layout.specs.Geometry.{BandType, ll, hl, lh, hh}
 use Rattle.xs_signal.specs.Lines.{IsBelow, column_of}
-use Rattle.xs_signal.specs.Wavelet.{Split, Bands, bands_of, band_plane, low_count, high_count, low_count_at, rows_low, rows_high, columns_low, columns_high, columns_kept, low_part}
+use Rattle.xs_signal.specs.Wavelet.{Split, Bands, bands_of_plane, band_plane, low_count, high_count, low_count_at, rows_low, rows_high, columns_low, columns_high, columns_kept, low_part}
 use Rattle.xs_signal.specs.Stripe.{IsSplit, rows_at}
 use Rattle.xs_wave.specs.Within.{SameWithin}
 use Rattle.xs_signal.proofs.LineLaws.{low_below}
@@ -56,7 +56,7 @@ back : (level : ℕ) → suc level - 1 ≡ level
 back level = omega arith
 
 hl_lifted : (s : Split) (p q : ℕ → ℕ → ℤ) (level : ℕ) → IsSplit s → level < s.across → SameWithin (low_count_at s.width level) (rows_at s level) q (low_part s p level)
-    → SameWithin (high_count (low_count_at s.width level)) (rows_at s (suc level)) (rows_high s level (columns_kept s level q)) ((bands_of s p).hl (suc level))
+    → SameWithin (high_count (low_count_at s.width level)) (rows_at s (suc level)) (rows_high s level (columns_kept s level q)) ((bands_of_plane s p).hl (suc level))
 hl_lifted s p q level split inside same =
     let w = low_count_at s.width level in
     let kept = kept_within s level w q (low_part s p level) split same in
@@ -70,7 +70,7 @@ deep_same s p q level less same =
     columns_high_within s level w q (low_part s p level) (subst (λ h. SameWithin w h q (low_part s p level)) (rows_deep s level (omega (arith, less))) same)
 
 lh_lifted : (s : Split) (p q : ℕ → ℕ → ℤ) (level : ℕ) → IsSplit s → level < s.down → SameWithin (low_count_at s.width level) (rows_at s level) q (low_part s p level)
-    → SameWithin (low_count (low_count_at s.width level)) (high_count (low_count_at s.height level)) (rows_low s level (columns_high s level q)) ((bands_of s p).lh (suc level))
+    → SameWithin (low_count (low_count_at s.width level)) (high_count (low_count_at s.height level)) (rows_low s level (columns_high s level q)) ((bands_of_plane s p).lh (suc level))
 lh_lifted s p q level split less same =
     let w = low_count_at s.width level in
     let h = low_count_at s.height level in
@@ -79,7 +79,7 @@ lh_lifted s p q level split less same =
     subst (λ l. SameWithin (low_count w) (high_count h) (rows_low s level (columns_high s level q)) (rows_low s l (columns_high s l (low_part s p l)))) (sym (back level)) here
 
 hh_lifted : (s : Split) (p q : ℕ → ℕ → ℤ) (level : ℕ) → level < s.down → SameWithin (low_count_at s.width level) (rows_at s level) q (low_part s p level)
-    → SameWithin (high_count (low_count_at s.width level)) (high_count (low_count_at s.height level)) (rows_high s level (columns_high s level q)) ((bands_of s p).hh (suc level))
+    → SameWithin (high_count (low_count_at s.width level)) (high_count (low_count_at s.height level)) (rows_high s level (columns_high s level q)) ((bands_of_plane s p).hh (suc level))
 hh_lifted s p q level less same =
     let w = low_count_at s.width level in
     let h = low_count_at s.height level in
@@ -88,14 +88,14 @@ hh_lifted s p q level less same =
 
 abbrev AreLifted : Split → (ℕ → ℕ → ℤ) → (ℕ → ℕ → ℤ) → ℕ → ℕ → Type 0
 AreLifted s p q level number =
-    SameWithin (columns_in s (type_at s number)) (rows_in s (type_at s number)) (band_plane (level_bands s level q) (type_at s number)) (band_plane (bands_of s p) (type_at s number))
+    SameWithin (columns_in s (type_at s number)) (rows_in s (type_at s number)) (band_plane (level_bands s level q) (type_at s number)) (band_plane (bands_of_plane s p) (type_at s number))
 
 lifted : (s : Split) (p q : ℕ → ℕ → ℤ) (level : ℕ) → IsSplit s → level < s.across → SameWithin (low_count_at s.width level) (rows_at s level) q (low_part s p level)
     → (number : ℕ) → first_number s (suc level) ≤ number → number < first_number s level → AreLifted s p q level number
 lifted s p q level split inside same number from to =
     let f = first_number s (suc level) in
     let x = level_bands s level q in
-    let y = bands_of s p in
+    let y = bands_of_plane s p in
     let w = low_count_at s.width level in
     let h = low_count_at s.height level in
     let deep = split.deep in
@@ -158,7 +158,7 @@ split_more s p level part next old new split inside before step =
       shown = λ number from to.
           elim (cases_lt number (first_number s level)) [
             | inl less ↦ same_trans _ _ _ _ _ (step.shown number from less) (lifted s p q level split inside before.low number from less)
-            | inr past ↦ subst (λ x. SameWithin (columns_in s (type_at s number)) (rows_in s (type_at s number)) (plane_of x) (band_plane (bands_of s p) (type_at s number))) (sym (step.others number past)) (before.shown number past to)
+            | inr past ↦ subst (λ x. SameWithin (columns_in s (type_at s number)) (rows_in s (type_at s number)) (plane_of x) (band_plane (bands_of_plane s p) (type_at s number))) (sym (step.others number past)) (before.shown number past to)
           ];
     }
 
@@ -177,20 +177,20 @@ done_size s p part planes deep done number inside =
           subst (λ x. HasSize (columns_in s (type_at s number)) (rows_in s (type_at s number)) x) (sym same) (done.sizes number (omega (arith, first_of_last s deep, other)) inside)
     ]
 
-done_shown : (s : Split) (p : ℕ → ℕ → ℤ) (part : List (List ℤ)) (planes : List (List (List ℤ))) → s.down ≤ s.across → IsSplitTo s p s.across part planes → ShowBands s (set planes 0 part) (bands_of s p)
+done_shown : (s : Split) (p : ℕ → ℕ → ℤ) (part : List (List ℤ)) (planes : List (List (List ℤ))) → s.down ≤ s.across → IsSplitTo s p s.across part planes → ShowBands s (set planes 0 part) (bands_of_plane s p)
 done_shown s p part planes deep done number inside =
     elim (cases_eq number 0) [
       | inl first ↦
           let there : get_or (set planes 0 part) 0 [] ≡ part = get_or-set_at planes 0 0 part [] refl (omega (arith, inside, done.as_many)) in
-          subst (ShowsBand s (set planes 0 part) (bands_of s p)) (sym first)
-          (band_shown s (set planes 0 part) (bands_of s p) 0 (ll s.across s.down) part (low_count_at s.width s.across) (rows_at s s.across) (first_type s) there (low_columns s.width s.across)
+          subst (ShowsBand s (set planes 0 part) (bands_of_plane s p)) (sym first)
+          (band_shown s (set planes 0 part) (bands_of_plane s p) 0 (ll s.across s.down) part (low_count_at s.width s.across) (rows_at s s.across) (first_type s) there (low_columns s.width s.across)
           (low_columns s.height s.down ∙ sym (rows_wide s s.across deep)) done.low)
       | inr other ↦
           let same : get_or (set planes 0 part) number [] ≡ get_or planes number [] = get_or-set_other planes 0 number part [] (λ e. other e) in
-          subst (λ x. SameWithin (columns_in s (type_at s number)) (rows_in s (type_at s number)) (plane_of x) (band_plane (bands_of s p) (type_at s number))) (sym same)
+          subst (λ x. SameWithin (columns_in s (type_at s number)) (rows_in s (type_at s number)) (plane_of x) (band_plane (bands_of_plane s p) (type_at s number))) (sym same)
           (done.shown number (omega (arith, first_of_last s deep, other)) inside)
     ]
 
 pub split_done : (s : Split) (p : ℕ → ℕ → ℤ) (part : List (List ℤ)) (planes : List (List (List ℤ))) → s.down ≤ s.across → IsSplitTo s p s.across part planes
-    → AreBandPlanes s (set planes 0 part) × ShowBands s (set planes 0 part) (bands_of s p)
+    → AreBandPlanes s (set planes 0 part) × ShowBands s (set planes 0 part) (bands_of_plane s p)
 split_done s p part planes deep done = (record { as_many = length-set planes 0 part ∙ done.as_many; sizes = done_size s p part planes deep done }, done_shown s p part planes deep done)

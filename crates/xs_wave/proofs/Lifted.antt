@@ -3,7 +3,7 @@ use Rattle.std.proofs.Common.{◌≡◌, ◌≢◌, ◌<◌, ◌≤◌, ◌+◌,
 use Rattle.std.proofs.lemmas.Bool.{cases_lt}
 use Rattle.std.proofs.lemmas.List.{get_or-take, get_or-drop, get_or_past, ext_get_or, length-take, length-drop}
 use Rattle.xs_signal.specs.Lines.{entries_of}
-use Rattle.xs_wave.specs.Rows.{rows_of}
+use Rattle.xs_wave.specs.Rows.{rows_of_entries}
 use Rattle.xs_wave.specs.Planes.{plane_of}
 use Rattle.xs_wave.proofs.Values.{below_same}
 use Rattle.xs_wave.specs.Corners.{AreApart, BelowFrom, BelowIn, SameShape}
@@ -28,7 +28,7 @@ outside_more row k place (inr past) = inr (omega (arith, past))
 
 -- ---- rows of the list
 
-pub entry_at : (width height row column : ℕ) (xs : List ℤ) → row < height → column < width → plane_of (rows_of width height xs) row column ≡ entries_of xs (row * width + column)
+pub entry_at : (width height row column : ℕ) (xs : List ℤ) → row < height → column < width → plane_of (rows_of_entries width height xs) row column ≡ entries_of xs (row * width + column)
 entry_at width height row column xs inside within =
     ap (λ r. entries_of r column) (row_at width height row xs inside) ∙ get_or-take width (drop (row * width) xs) column (pos 0) within ∙ get_or-drop (row * width) xs column (pos 0)
 
@@ -46,7 +46,7 @@ place_outside part start width row column (inr before) most within = inl (omega 
 
 pub lifted_other : (width height at start part : ℕ) (xs ys : List ℤ) → length xs ≡ height * width → length ys ≡ length xs → start ≡ at * width → part ≤ width
     → ((place : ℕ) → (place < start ⊎ start + part ≤ place) → entries_of ys place ≡ entries_of xs place)
-    → (row : ℕ) → row ≢ at → get_or (rows_of width height ys) row [] ≡ get_or (rows_of width height xs) row []
+    → (row : ℕ) → row ≢ at → get_or (rows_of_entries width height ys) row [] ≡ get_or (rows_of_entries width height xs) row []
 lifted_other width height at start part xs ys size same place most others row other =
     elim (cases_lt row height) [
       | inl inside ↦
@@ -61,20 +61,20 @@ lifted_other width height at start part xs ys size same place most others row ot
           get_or-take width (drop (row * width) ys) k (pos 0) within ∙ get_or-drop (row * width) ys k (pos 0) ∙ others (row * width + k) (place_outside part start width (row * width) k apart most within)
           ∙ sym (get_or-take width (drop (row * width) xs) k (pos 0) within ∙ get_or-drop (row * width) xs k (pos 0)))
           ∙ sym (row_at width height row xs inside)
-      | inr past ↦ get_or_past (rows_of width height ys) row [] (omega (arith, past, length_rows width height ys)) ∙ sym (get_or_past (rows_of width height xs) row [] (omega (arith, past, length_rows width height xs)))
+      | inr past ↦ get_or_past (rows_of_entries width height ys) row [] (omega (arith, past, length_rows width height ys)) ∙ sym (get_or_past (rows_of_entries width height xs) row [] (omega (arith, past, length_rows width height xs)))
     ]
 
-length_row : (width height row : ℕ) (xs ys : List ℤ) → length xs ≡ height * width → length ys ≡ length xs → length (get_or (rows_of width height ys) row []) ≡ length (get_or (rows_of width height xs) row [])
+length_row : (width height row : ℕ) (xs ys : List ℤ) → length xs ≡ height * width → length ys ≡ length xs → length (get_or (rows_of_entries width height ys) row []) ≡ length (get_or (rows_of_entries width height xs) row [])
 length_row width height row xs ys size same =
     elim (cases_lt row height) [
       | inl inside ↦
           ap length (row_at width height row ys inside)
           ∙ omega (arith, length-take {A = ℤ} width (drop (row * width) ys), length-drop {A = ℤ} (row * width) ys, length-take {A = ℤ} width (drop (row * width) xs), length-drop {A = ℤ} (row * width) xs, same)
           ∙ sym (ap length (row_at width height row xs inside))
-      | inr past ↦ ap length (get_or_past (rows_of width height ys) row [] (omega (arith, past, length_rows width height ys)) ∙ sym (get_or_past (rows_of width height xs) row [] (omega (arith, past, length_rows width height xs))))
+      | inr past ↦ ap length (get_or_past (rows_of_entries width height ys) row [] (omega (arith, past, length_rows width height ys)) ∙ sym (get_or_past (rows_of_entries width height xs) row [] (omega (arith, past, length_rows width height xs))))
     ]
 
-pub lifted_shape : (width height : ℕ) (xs ys : List ℤ) → length xs ≡ height * width → length ys ≡ length xs → SameShape (rows_of width height xs) (rows_of width height ys)
+pub lifted_shape : (width height : ℕ) (xs ys : List ℤ) → length xs ≡ height * width → length ys ≡ length xs → SameShape (rows_of_entries width height xs) (rows_of_entries width height ys)
 lifted_shape width height xs ys size same = record {
   many = length_rows width height ys ∙ sym (length_rows width height xs);
   widths = λ row. length_row width height row xs ys size same;
@@ -83,7 +83,7 @@ lifted_shape width height xs ys size same = record {
 -- ---- a plane's numbers, which stand in `xs` and are lent as `slice`
 
 pub record AreHeld (width height : ℕ) (v : Vec ℤ Global) (rows : List (List ℤ)) (slice : List ℤ) : Type 0 where
-  pub seen : rows_of width height v.items ≡ rows
+  pub seen : rows_of_entries width height v.items ≡ rows
   pub size : length v.items ≡ height * width
   pub same : slice ≡ v.items
 
@@ -107,7 +107,7 @@ starts_apart width part a b start other most differ here there =
 
 -- the plane's rows after the slice was written
 abbrev pub rewritten : ℕ → ℕ → Vec ℤ Global → List ℤ → List (List ℤ)
-rewritten width height v new = rows_of width height (with_items v new).items
+rewritten width height v new = rows_of_entries width height (with_items v new).items
 
 module _ (width height : ℕ) (v : Vec ℤ Global) (rows : List (List ℤ)) (slice new : List ℤ) (held : AreHeld width height v rows slice) (long : length new ≡ length slice) where
   items_new : (with_items v new).items ≡ new
@@ -119,14 +119,14 @@ module _ (width height : ℕ) (v : Vec ℤ Global) (rows : List (List ℤ)) (sli
   pub new_entry : (at start column : ℕ) → at < length rows → start ≡ at * width → column < width → plane_of (rewritten width height v new) at column ≡ entries_of new (start + column)
   new_entry at start column inside place within =
       let many : length rows ≡ height = sym (ap length held.seen) ∙ length_rows width height v.items in
-      ap (λ l. plane_of (rows_of width height l) at column) items_new ∙ entry_at width height at column new (omega (arith, inside, many)) within ∙ ap (λ n. entries_of new (n + column)) (sym place)
+      ap (λ l. plane_of (rows_of_entries width height l) at column) items_new ∙ entry_at width height at column new (omega (arith, inside, many)) within ∙ ap (λ n. entries_of new (n + column)) (sym place)
 
   pub new_other : (at start part : ℕ) → start ≡ at * width → part ≤ width → ((place : ℕ) → (place < start ⊎ start + part ≤ place) → entries_of new place ≡ entries_of slice place)
       → (row : ℕ) → row ≢ at → get_or (rewritten width height v new) row [] ≡ get_or rows row []
   new_other at start part place most others row other =
-      ap (λ l. get_or (rows_of width height l) row []) items_new
+      ap (λ l. get_or (rows_of_entries width height l) row []) items_new
       ∙ lifted_other width height at start part v.items new held.size as_long place most (λ k outside. others k outside ∙ ap (λ l. entries_of l k) held.same) row other
       ∙ ap (λ r. get_or r row []) held.seen
 
   pub new_shape : SameShape rows (rewritten width height v new)
-  new_shape = subst (λ r. SameShape r (rewritten width height v new)) held.seen (subst (λ l. SameShape (rows_of width height v.items) (rows_of width height l)) (sym items_new) (lifted_shape width height v.items new held.size as_long))
+  new_shape = subst (λ r. SameShape r (rewritten width height v new)) held.seen (subst (λ l. SameShape (rows_of_entries width height v.items) (rows_of_entries width height l)) (sym items_new) (lifted_shape width height v.items new held.size as_long))

@@ -3,7 +3,7 @@ use Rattle.std.proofs.Common.{◌≡◌, ℕ, zero, suc, ◌+◌, ◌-◌, ◌*�
 use Rattle.std.specs.Prelude.{if◌then◌else◌}
 use Rattle.std.proofs.lemmas.Bool.{ltb-true, ltb-false}
 use Rattle.xs_signal.specs.Lines.{column_of}
-use Rattle.xs_signal.specs.Wavelet.{Split, Bands, low_count, high_count, low_count_at, evens_of, high_of, low_of, rows_low, rows_high, columns_low, columns_high, columns_kept, low_part, rows_joined, columns_joined, joined, restored, inverse_line, inverse_plane, bands_of}
+use Rattle.xs_signal.specs.Wavelet.{Split, Bands, low_count, high_count, low_count_at, evens_of, high_of, low_of, rows_low, rows_high, columns_low, columns_high, columns_kept, low_part, rows_joined, columns_joined, joined, restored, inverse_line, inverse_plane, bands_of_plane}
 use Rattle.xs_signal.specs.Stripe.{IsSplit, rows_at}
 use Rattle.xs_wave.specs.Within.{SameWithin, SameBandsWithin, TransformsWithin}
 use Rattle.xs_signal.proofs.LineLaws.{line_near, predicted_same, updated_same}
@@ -136,7 +136,7 @@ restored_within s x y split bands (suc steps) inside =
 
 -- ---- planes
 
-split_within : (s : Split) (p q : ℕ → ℕ → ℤ) → IsSplit s → SameWithin s.width s.height p q → SameBandsWithin s (bands_of s p) (bands_of s q)
+split_within : (s : Split) (p q : ℕ → ℕ → ℤ) → IsSplit s → SameWithin s.width s.height p q → SameBandsWithin s (bands_of_plane s p) (bands_of_plane s q)
 split_within s p q split same = record {
   ll = part_within s p q split same s.across (omega arith);
   hl = λ level inside. let back : level + 1 - 1 ≡ level = omega arith in hl_at level (level + 1 - 1) back inside;

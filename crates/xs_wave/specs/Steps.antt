@@ -1,7 +1,7 @@
 -- One level of a component's split, and what is known after some of them: '5/3 wavelet'.
 use Rattle.std.specs.Prelude.{◌≡◌, ℕ, suc, ◌+◌, ◌-◌, ◌*◌, min, ◌^◌, ◌<◌, ◌≤◌, List, [], length, slice_index_or, ℤ}
 use Rattle.xs_signal.specs.Lines.{column_of}
-use Rattle.xs_signal.specs.Wavelet.{Split, bands_of, low_count, high_count, low_count_at, low_of, high_of, low_part, inverse_line, joined, restored}
+use Rattle.xs_signal.specs.Wavelet.{Split, bands_of_plane, low_count, high_count, low_count_at, low_of, high_of, low_part, inverse_line, joined, restored}
 use Rattle.xs_signal.specs.Stripe.{rows_at}
 use Rattle.xs_wave.specs.Within.{SameWithin}
 use Rattle.xs_wave.specs.Planes.{plane_of, HasSize, IsSmall}
@@ -34,7 +34,7 @@ pub record IsSplitTo (s : Split) (p : ℕ → ℕ → ℤ) (level : ℕ) (part :
   pub small : IsSmall (2 ^ (40 + 2 * level)) part
   pub as_many : length planes ≡ band_count s
   pub sizes : (number : ℕ) → first_number s level ≤ number → number < band_count s → HasBandSize s planes number
-  pub shown : (number : ℕ) → first_number s level ≤ number → number < band_count s → ShowsBand s planes (bands_of s p) number
+  pub shown : (number : ℕ) → first_number s level ≤ number → number < band_count s → ShowsBand s planes (bands_of_plane s p) number
 
 -- the plane of this size with these four parts: rows are joined before columns
 abbrev pub four_joined : ℕ → ℕ → (ℕ → ℕ → ℤ) → (ℕ → ℕ → ℤ) → (ℕ → ℕ → ℤ) → (ℕ → ℕ → ℤ) → ℕ → ℕ → ℤ

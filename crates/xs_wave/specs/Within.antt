@@ -1,6 +1,6 @@
 -- A transform looks at no entry outside its plane or its bands: laws of '5/3 wavelet'.
 use Rattle.std.specs.Prelude.{◌≡◌, ℕ, ◌+◌, ◌<◌, ℤ}
-use Rattle.xs_signal.specs.Wavelet.{Split, Bands, low_count, high_count, low_count_at, bands_of, inverse_plane}
+use Rattle.xs_signal.specs.Wavelet.{Split, Bands, low_count, high_count, low_count_at, bands_of_plane, inverse_plane}
 use Rattle.xs_signal.specs.Stripe.{IsSplit, rows_at}
 
 -- the planes are the same in so many columns and rows
@@ -16,5 +16,5 @@ pub record SameBandsWithin (s : Split) (x y : Bands) : Type 0 where
 
 -- planes that are the same have the same bands, and bands that are the same have the same plane
 pub record TransformsWithin : Type 0 where
-  pub split : (s : Split) (p q : ℕ → ℕ → ℤ) → IsSplit s → SameWithin s.width s.height p q → SameBandsWithin s (bands_of s p) (bands_of s q)
+  pub split : (s : Split) (p q : ℕ → ℕ → ℤ) → IsSplit s → SameWithin s.width s.height p q → SameBandsWithin s (bands_of_plane s p) (bands_of_plane s q)
   pub joined : (s : Split) (x y : Bands) → IsSplit s → SameBandsWithin s x y → SameWithin s.width s.height (inverse_plane s x) (inverse_plane s y)

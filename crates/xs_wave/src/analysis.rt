@@ -1,6 +1,6 @@
 //! A plane is split into its bands, level by level in one buffer.
 ghost use Rattle.std.specs.Prelude.{◌≡◌, ℕ, suc, ◌<◌, ◌≤◌, ◌+◌, ◌^◌, length, slice_index_or, [], IfOk};
-ghost use Rattle.xs_signal.specs.Wavelet.{low_count, high_count, low_count_at, bands_of};
+ghost use Rattle.xs_signal.specs.Wavelet.{low_count, high_count, low_count_at, bands_of_plane};
 ghost use Rattle.xs_signal.specs.Stripe.{rows_at};
 ghost use Rattle.xs_wave.specs.Corners.{BelowWithin, IsRoomy, SameShape, part_at};
 ghost use Rattle.xs_wave.specs.Planes.{plane_of, IsWide, HasSize, IsSmall};
@@ -29,7 +29,7 @@ pub fn analyse_plane(alloc: Global, plane: &Plane, nlx: u8, nly: u8) -> Result<B
     requires component { IsComponent (split_of plane.now nlx nly) }
     requires small { IsSmall (2 ^ 40) plane.now }
     ensures planes { IfOk result (AreBandPlanes (split_of plane.now nlx nly)) }
-    ensures bands { IfOk result (λ bands. ShowBands (split_of plane.now nlx nly) bands (bands_of (split_of plane.now nlx nly) (plane_of plane.now))) }
+    ensures bands { IfOk result (λ bands. ShowBands (split_of plane.now nlx nly) bands (bands_of_plane (split_of plane.now nlx nly) (plane_of plane.now))) }
 {
     let levels = levels_of(plane, nlx, nly);
     let mut bands = BandPlanes::empty(alloc, levels.first_band(0))?;

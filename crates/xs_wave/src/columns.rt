@@ -2,7 +2,7 @@
 //! rows for the high part.
 ghost use Rattle.std.specs.Prelude.{◌≡◌, ℕ, ℤ, ◌+◌, ◌-◌, ◌*◌, ◌<◌, ◌≤◌, ◌^◌, ◌+ℤ◌, ◌-ℤ◌, length, slice_index_or, []};
 ghost use Rattle.xs_signal.specs.Lines.{column_of};
-ghost use Rattle.xs_signal.specs.Wavelet.{low_count, high_count, low_of, high_of, even_of, predicted, updated, inverse_line};
+ghost use Rattle.xs_signal.specs.Wavelet.{low_count, high_count, low_of, high_of, even_of, predicted_sample, updated, inverse_line};
 ghost use Rattle.xs_wave.specs.Within.{SameWithin};
 ghost use Rattle.xs_wave.specs.Planes.{plane_of};
 ghost use Rattle.xs_wave.specs.Corners.{BelowWithin, IsRoomy, SameShape, even_rows, odd_rows};
@@ -104,7 +104,7 @@ fn join_odd_rows(plane: &mut Plane, width: usize, height: usize)
     requires room { IsRoomy width height plane.old }
     requires small { BelowWithin (2 ^ 50) width (high_count height) (odd_rows (plane_of plane.old)) }
     requires small_even { BelowWithin (2 ^ 51) width (low_count height) (even_rows (plane_of plane.old)) }
-    ensures high { SameWithin width (high_count height) (odd_rows (plane_of plane.new)) (λ row column. odd_rows (plane_of plane.old) row column +ℤ predicted height (column_of (even_rows (plane_of plane.old)) column) row) }
+    ensures high { SameWithin width (high_count height) (odd_rows (plane_of plane.new)) (λ row column. odd_rows (plane_of plane.old) row column +ℤ predicted_sample height (column_of (even_rows (plane_of plane.old)) column) row) }
     ensures even { (row : ℕ) → slice_index_or plane.new (2 * row) [] ≡ slice_index_or plane.old (2 * row) [] }
     ensures shape { SameShape plane.old plane.new }
 {

@@ -26,6 +26,3 @@ pub use synthesis::synthesise_plane;
 pub fn transforms_within()
     ensures { TransformsWithin }
 {}
-
-#[cfg(test)]
-mod tests;

@@ -5,7 +5,7 @@ ghost use Rattle.std.specs.Int.{int_shr};
 ghost use Rattle.xs_signal.specs.Lines.{AllBelow, entries_of};
 ghost use Rattle.xs_signal.specs.Wavelet.{low_count, high_count, inverse_line};
 ghost use Rattle.xs_wave.specs.Corners.{BelowIn, SameShape};
-ghost use Rattle.xs_wave.specs.Lent.{LendsRow};
+ghost use Rattle.xs_wave.specs.Lent.{LendsPlaneRow};
 ghost use Rattle.xs_wave.specs.Planes.{plane_of, IsWide};
 
 use crate::lifts;
@@ -24,11 +24,11 @@ pub struct Plane {
 
 impl Model for Plane {
     ghost use Rattle.std.specs.Prelude.{◌≡◌, ◌*◌, List, ℤ, length};
-    ghost use Rattle.xs_wave.specs.Rows.{rows_of};
+    ghost use Rattle.xs_wave.specs.Rows.{rows_of_entries};
 
     ghost Value = { List (List ℤ) };
 
-    ghost view = { λ s. rows_of s.width s.height s.samples.items };
+    ghost view = { λ s. rows_of_entries s.width s.height s.samples.items };
 
     ghost invariant = { λ s. length s.samples.items ≡ s.height * s.width };
 }
@@ -57,7 +57,7 @@ impl Plane {
 
     pub fn row_mut(&mut self, row: u32) -> &mut [i64]
         requires { row < length self.old }
-        ensures* after { sem 𝓛 (LendsRow self.entry row result) }
+        ensures* after { sem 𝓛 (LendsPlaneRow self.entry row result) }
         ensures value { result.now ≡ slice_index_or self.old row [] }
     {
         self.line_mut(row as usize)
@@ -98,7 +98,7 @@ impl Plane {
 
     pub(crate) fn line_mut(&mut self, at: usize) -> &mut [i64]
         requires { at < length self.old }
-        ensures* after { sem 𝓛 (LendsRow self.entry at result) }
+        ensures* after { sem 𝓛 (LendsPlaneRow self.entry at result) }
         ensures value { result.now ≡ slice_index_or self.old at [] }
     {
         let start = start_of(at, self.width, self.samples.len());

@@ -10,14 +10,14 @@ use Rattle.xs_picture.proofs.band_planes.fill_bands.Goals as goal
 
 pub fill_band-requires-clause-number : goal.fill_band-requires-clause-number
 fill_band-requires-clause-number c =
-    let counted = all_counted (component_split c.args.coefs.now.header c.args.component) (omega (arith, c.requires.coefs.accepted.nly)) in
+    let counted = all_counted (component_split c.args.coefs.now.header c.args.component) (omega (arith, c.requires.coefs.accepted.geometry.nly)) in
     let types = c.type_count-number-end.ensures ∙ ap (λ (h : Header). 2 * h.nly + h.nlx + 1) c.header-2.ensures in
     omega (arith, c.loop-number-test.true, types, counted, c.loop-number.invariant.as_many, c.requires.planes.as_many)
 
 pub fill_band-requires-clause-size : goal.fill_band-requires-clause-size
 fill_band-requires-clause-size c =
     let s = component_split c.args.coefs.now.header c.args.component in
-    let counted = all_counted s (omega (arith, c.requires.coefs.accepted.nly)) in
+    let counted = all_counted s (omega (arith, c.requires.coefs.accepted.geometry.nly)) in
     let types = c.type_count-number-end.ensures ∙ ap (λ (h : Header). 2 * h.nly + h.nlx + 1) c.header-2.ensures in
     let number = c.loop-number.number in
     subst (λ rows. HasSize (columns_in s (type_at s number)) (rows_in s (type_at s number)) rows) (sym (c.loop-number.invariant.rest number (omega arith)))
@@ -40,7 +40,7 @@ loop-number-preserved c =
 
 pub returns : goal.returns
 returns c =
-    let counted = all_counted (component_split c.args.coefs.now.header c.args.component) (omega (arith, c.requires.coefs.accepted.nly)) in
+    let counted = all_counted (component_split c.args.coefs.now.header c.args.component) (omega (arith, c.requires.coefs.accepted.geometry.nly)) in
     let types = c.type_count-number-end.ensures ∙ ap (λ (h : Header). 2 * h.nly + h.nlx + 1) c.header-2.ensures in
     record {
       as_many = c.loop-number.invariant.as_many ∙ c.requires.planes.as_many;

@@ -1,7 +1,7 @@
 use Rattle.std.proofs.Common.{◌<◌, ◌/◌, ◌^◌, ◌*ℤ◌, pos, [], get_or, length, sym, ap, subst, ◌∙◌, arith}
 use Rattle.xs_params.specs.declared.header.Header.{Header}
 use Rattle.xs_signal.specs.Lines.{entries_of}
-use Rattle.xs_grammar.specs.Geometry.{band_height_of}
+use Rattle.xs_params.specs.Geometry.{band_height_of}
 use Rattle.xs_geometry.specs.SliceLines.{HasLine, row_at}
 use Rattle.xs_picture.proofs.Coverage.{slice_there, lines_some, line_there, row_width}
 use Rattle.xs_picture.proofs.Filled.{filled_more, filled_all}

@@ -5,8 +5,8 @@ use Rattle.xs_picture.proofs.Results.{is_err, err_one, ok_named}
 use Rattle.xs_picture.proofs.StreamsRead.{stream_decoded}
 use Rattle.xs_picture.proofs.decoder.decode_picture.Goals as goal
 
-pub returns-in-Ok-clause-decoded : goal.returns-in-Ok-clause-decoded
-returns-in-Ok-clause-decoded c = stream_decoded c.in_ok-coefs.coefs c.args.bytes.now c.in_ok-coefs.size c.in-Ok.picture c.in_ok-coefs.ensures.read c.in-Ok.ensures.decoded
+pub returns-clause-decoded : goal.returns-clause-decoded
+returns-clause-decoded c = stream_decoded c.in_ok-coefs.coefs c.args.bytes.now c.in_ok-coefs.size c.in_ok-picture.picture c.in_ok-coefs.ensures.read c.in_ok-picture.ensures.decoded
 
 pub returns-in_err-coefs-clause-unbuilt : goal.returns-in_err-coefs-clause-unbuilt
 returns-in_err-coefs-clause-unbuilt c = λ slice precinct packet u.
@@ -16,5 +16,5 @@ returns-in_err-coefs-clause-unbuilt c = λ slice precinct packet u.
       | inr e ↦ inr (is_err c.from_residual.result c.in_err-coefs.field-0.0 told ∙ ap Err (err_one _ _ e))
     ]
 
-pub returns-in-Ok-clause-unbuilt : goal.returns-in-Ok-clause-unbuilt
-returns-in-Ok-clause-unbuilt c = λ slice precinct packet u. absurd (ok_named _ _ _ (c.in_ok-coefs.ensures.unbuilt slice precinct packet u))
+pub returns-clause-unbuilt : goal.returns-clause-unbuilt
+returns-clause-unbuilt c = λ slice precinct packet u. absurd (ok_named _ _ _ (c.in_ok-coefs.ensures.unbuilt slice precinct packet u))

@@ -1,7 +1,9 @@
 use Rattle.std.proofs.Common.{◌≡◌, ◌≢◌, ℕ, ◌^◌, subst, sym}
 use Rattle.xs_params.specs.declared.header.Header.{Header}
 use Rattle.xs_params.specs.Picture.{IsPlace, sample_at}
-use Rattle.xs_wave.specs.Planes.{plane_of}
+use Rattle.xs_params.specs.Geometry.{component_width}
+use Rattle.xs_wave.specs.Planes.{plane_of, HasSize}
+use Rattle.xs_decoding.proofs.Within.{full_width}
 use Rattle.xs_picture.specs.Decoding.{joined_planes, turned_plane, AreColours, HasSamples, HoldsPlane}
 use Rattle.xs_picture.proofs.Decoded.{colours_are, colour_decoded, three_decoded}
 use Rattle.xs_picture.proofs.decoder.put_colours.Goals as goal
@@ -34,3 +36,17 @@ returns-clause-decoded c =
     (subst (λ (h : Header). HasSamples h third 2 (plane_of c.turn_planes.new.v)) here c.in_ok-put_plane-3.ensures.samples))
     (subst (λ (h : Header). (other row column : ℕ) → other ≢ 1 → IsPlace h.shape other row column → sample_at second other row column ≡ sample_at first other row column) here c.in_ok-put_plane-2.ensures.others)
     (subst (λ (h : Header). (other row column : ℕ) → other ≢ 2 → IsPlace h.shape other row column → sample_at third other row column ≡ sample_at second other row column) here c.in_ok-put_plane-3.ensures.others)
+
+pub put_plane-requires-2-clause-size : goal.put_plane-requires-2-clause-size
+put_plane-requires-2-clause-size c =
+    let here = c.header-header.ensures in
+    subst (λ (h : Header). HasSize (component_width h 1) h.shape.height c.turn_planes.new.u) (sym here)
+    (subst (λ w. HasSize w c.args.coefs.now.header.shape.height c.turn_planes.new.u) (sym (full_width c.args.coefs.now.header.shape 1 (c.requires.coefs.accepted.colour c.requires.coloured)))
+    (subst (λ (h : Header). HasSize h.shape.width h.shape.height c.turn_planes.new.u) here c.turn_planes.ensures.green.size))
+
+pub put_plane-requires-3-clause-size : goal.put_plane-requires-3-clause-size
+put_plane-requires-3-clause-size c =
+    let here = c.header-header.ensures in
+    subst (λ (h : Header). HasSize (component_width h 2) h.shape.height c.turn_planes.new.v) (sym here)
+    (subst (λ w. HasSize w c.args.coefs.now.header.shape.height c.turn_planes.new.v) (sym (full_width c.args.coefs.now.header.shape 2 (c.requires.coefs.accepted.colour c.requires.coloured)))
+    (subst (λ (h : Header). HasSize h.shape.width h.shape.height c.turn_planes.new.v) here c.turn_planes.ensures.blue.size))

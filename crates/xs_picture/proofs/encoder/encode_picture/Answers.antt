@@ -1,12 +1,21 @@
-use Rattle.std.proofs.Common.{sym, ap, ◌∙◌}
+use Rattle.std.proofs.Common.{rules, ◌≡◌, sym, ap, subst, ◌∙◌}
+use Rattle.std.specs.Prelude.{Ok, Some}
+use Rattle.std.specs.Result.{result_err}
+use Rattle.xs_rate.specs.Encoding.{encoding_of}
+use Rattle.xs_picture.specs.Encoded.{IsEncodingOrMemory}
+use Rattle.xs_picture.proofs.Results.{is_err}
 use Rattle.xs_picture.proofs.Pictures as pictures
-use Rattle.std.specs.Prelude.{Ok}
 use Rattle.xs_picture.proofs.encoder.encode_picture.Goals as goal
 
-pub returns-in-Err : goal.returns-in-Err
-returns-in-Err c = record { encoding = pictures.refusal_encodes c.args.settings.now c.args.planes.now c.in-Err.refusal c.in-Err.ensures.refused }
+pub returns-in_err-slices : goal.returns-in_err-slices
+returns-in_err-slices c =
+    let told : result_err c.from_residual.result ≡ Some c.in_err-slices.field-0.0 = search rules in
+    record {
+      encoding = subst (IsEncodingOrMemory (encoding_of c.args.settings.now c.args.planes.now)) (sym (is_err c.from_residual.result c.in_err-slices.field-0.0 told))
+          (pictures.refusal_encodes c.args.settings.now c.args.planes.now c.in_err-slices.field-0.0 c.in_err-slices.ensures.refused);
+    }
 
-pub returns-in-Ok-join : goal.returns-in-Ok-join
-returns-in-Ok-join c = record {
-  encoding = pictures.encoded c.args.settings.now c.args.planes.now c.in-Ok.slices.items c.in-Ok.ensures.slices c.in-Ok.ensures.within ∙ ap Ok (sym c.in-Ok-join.ensures.stream);
+pub returns : goal.returns
+returns c = record {
+  encoding = pictures.encoded c.args.settings.now c.args.planes.now c.in_ok-slices.slices.items c.in_ok-slices.ensures.slices.bytes c.in_ok-slices.ensures.slices.within ∙ ap Ok (sym c.in_ok-stream.ensures.stream);
 }

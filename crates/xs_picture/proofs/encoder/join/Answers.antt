@@ -1,24 +1,21 @@
-use Rattle.std.proofs.Common.{◌+◌, length, ap, arith}
+use Rattle.std.proofs.Common.{ℕ, List, ◌+◌, length, sum_by, ap, arith}
 use Rattle.xs_picture.proofs.Pictures as pictures
 use Rattle.xs_picture.proofs.encoder.join.Goals as goal
 
 pub overflow_cast-size : goal.overflow_cast-size
 overflow_cast-size c =
-    let short = pictures.header_short c.args.settings.now c.in_ok-header.header c.requires.built c.settings-asked.ensures.in_range c.in_ok-header.ensures.header in
+    let short = pictures.header_short c.args.settings.now c.in_ok-header.header c.header.ensures.in_range c.in_ok-header.ensures.header in
     omega (arith, c.len-size.ensures.count, ap length c.in_ok-write_header.ensures.written, short)
 
 pub overflow_add-header : goal.overflow_add-header
 overflow_add-header c =
-    let short = pictures.header_short c.args.settings.now c.in_ok-header.header c.requires.built c.settings-asked.ensures.in_range c.in_ok-header.ensures.header in
-    omega (arith, c.len-size.ensures.count, ap length c.in_ok-write_header.ensures.written, short, c.length_of.ensures.most)
+    let short = pictures.header_short c.args.settings.now c.in_ok-header.header c.header.ensures.in_range c.in_ok-header.ensures.header in
+    omega (arith, c.len-size.ensures.count, ap length c.in_ok-write_header.ensures.written, short, c.length_of.ensures.sum, ap (λ (l : List (List ℕ)). sum_by length l) c.as_slice.ensures.value, c.requires.room)
 
 pub overflow_add-header-2 : goal.overflow_add-header-2
 overflow_add-header-2 c =
-    let short = pictures.header_short c.args.settings.now c.in_ok-header.header c.requires.built c.settings-asked.ensures.in_range c.in_ok-header.ensures.header in
-    omega (arith, c.len-size.ensures.count, ap length c.in_ok-write_header.ensures.written, short, c.length_of.ensures.most)
-
-pub write_header-requires-clause-accepted : goal.write_header-requires-clause-accepted
-write_header-requires-clause-accepted c = pictures.accepted_header c.args.settings.now c.in_ok-header.header c.in_ok-header.header.lcod c.requires.built c.settings-asked.ensures.in_range c.in_ok-header.ensures.header c.in_ok-header.ensures.weights.one_each
+    let short = pictures.header_short c.args.settings.now c.in_ok-header.header c.header.ensures.in_range c.in_ok-header.ensures.header in
+    omega (arith, c.len-size.ensures.count, ap length c.in_ok-write_header.ensures.written, short, c.length_of.ensures.sum, ap (λ (l : List (List ℕ)). sum_by length l) c.as_slice.ensures.value, c.requires.room)
 
 pub write_header-requires-2-clause-accepted : goal.write_header-requires-2-clause-accepted
-write_header-requires-2-clause-accepted c = pictures.accepted_header c.args.settings.now c.in_ok-header.header (c.len-size.result + c.length_of.result + 2) c.requires.built c.settings-asked.ensures.in_range c.in_ok-header.ensures.header c.in_ok-header.ensures.weights.one_each
+write_header-requires-2-clause-accepted c = pictures.accepted_header c.args.settings.now c.in_ok-header.header (c.len-size.result + c.length_of.result + 2) c.header.ensures.in_range c.in_ok-header.ensures.header

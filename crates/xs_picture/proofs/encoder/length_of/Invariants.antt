@@ -1,8 +1,5 @@
-use Rattle.std.proofs.Common.{◌≡◌, ◌*◌, ◌≤◌, length, take, sum_by}
+use Rattle.std.proofs.Common.{◌≡◌, length, take, sum_by}
 use Rattle.xs_picture.proofs.encoder.length_of.Given as goal
 
 abbrev pub invariant-loop-slice : goal.invariant-loop-slice
-invariant-loop-slice l = record {
-  sum : l.length ≡ sum_by length (take l.slice-index l.slices);
-  most : l.length ≤ 524286 * l.slice-index;
-}
+invariant-loop-slice l = l.length ≡ sum_by length (take l.slice-index l.slices)

@@ -1,13 +1,13 @@
-use Rattle.std.proofs.Common.{◌≡◌, ℕ, ℤ, ◌-◌, ◌≤◌, List, length, sum_by, sym, ap, subst, ◌∙◌, arith}
-use Rattle.std.specs.List.{range_with_len}
+use Rattle.std.proofs.Common.{ℕ, ℤ, List, length, sym, ap, subst, ◌∙◌, arith}
 use Rattle.xs_params.specs.declared.header.Header.{Header}
-use Rattle.xs_grammar.specs.Geometry.{packet_bands}
+use Rattle.xs_params.specs.Geometry.{packet_bands}
+use Rattle.xs_params.specs.Accepted.{IsGeometry}
 use Rattle.xs_geometry.specs.Places.{place_of}
-use Rattle.xs_rate.specs.Finest.{band_groups}
+use Rattle.xs_geometry.proofs.Counts.{bands_most}
 use Rattle.xs_lines.specs.Rows.{data_bits}
 use Rattle.xs_picture.specs.PacketBits.{line_row}
 use Rattle.xs_picture.proofs.Packets.{line_in}
-use Rattle.xs_picture.proofs.Ranges.{size_longer, sum_longer, sum_within}
+use Rattle.xs_picture.proofs.Ranges.{size_longer}
 use Rattle.xs_picture.proofs.packet.bits_of_numbers.Goals as goal
 
 pub line_row-requires-clause-line : goal.line_row-requires-clause-line
@@ -17,13 +17,8 @@ line_row-requires-clause-line c =
 
 pub overflow_add-bits : goal.overflow_add-bits
 overflow_add-bits c =
-    let h = c.args.rows.now.layout in
-    let first = c.packet_bands-first.result.0 in
-    let end = c.packet_bands-first.result.1 in
-    let listed : packet_bands h (place_of c.args.place) ≡ range_with_len first (end - first) = ap (λ (x : Header). packet_bands x (place_of c.args.place)) (sym c.layout.ensures.layout) ∙ c.packet_bands-first.ensures.bands in
-    let narrow : sum_by (band_groups h) (range_with_len first (end - first)) ≤ 2054 = subst (λ l. sum_by (band_groups h) l ≤ 2054) listed c.requires.packet.narrow in
-    let within = sum_within (band_groups h) first c.bands.band end c.bands.auto.band c.bands-test.true in
-    omega (arith, narrow, within, c.bands.invariant.most, c.data_size-bits.ensures.most, c.line_row.ensures.groups)
+    let few = bands_most c.layout.result.now (subst IsGeometry (sym c.layout.ensures.layout) c.layout.ensures.ranges) in
+    omega (arith, few, c.packet_bands-first.ensures.there, c.bands.auto.band, c.bands-test.true, c.bands.invariant.most, c.data_size-bits.ensures.few)
 
 pub bands-preserved : goal.bands-preserved
 bands-preserved c =
@@ -33,5 +28,5 @@ bands-preserved c =
     let one = c.data_size-bits.ensures.size ∙ ap (λ (row : List ℤ). length (data_bits row)) c.line_row.ensures.row in
     record {
       bits = omega (arith, size_longer piece first c.bands.band c.bands.auto.band, c.bands.invariant.bits, one);
-      most = omega (arith, sum_longer (band_groups h) first c.bands.band c.bands.auto.band, c.bands.invariant.most, c.data_size-bits.ensures.most, c.line_row.ensures.groups);
+      most = omega (arith, c.bands.auto.band, c.bands.invariant.most, c.data_size-bits.ensures.few);
     }

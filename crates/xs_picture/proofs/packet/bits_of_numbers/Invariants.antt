@@ -1,11 +1,10 @@
-use Rattle.std.proofs.Common.{◌≡◌, ◌-◌, ◌*◌, ◌≤◌, length, sum_by}
+use Rattle.std.proofs.Common.{◌≡◌, ◌-◌, ◌*◌, ◌^◌, ◌≤◌, length}
 use Rattle.std.specs.List.{range_with_len}
-use Rattle.xs_rate.specs.Finest.{band_groups}
 use Rattle.xs_picture.specs.PacketBits.{numbers_in}
 use Rattle.xs_picture.proofs.packet.bits_of_numbers.Given as goal
 
 abbrev pub invariant-bands : goal.invariant-bands
 invariant-bands l = record {
   bits : l.bits ≡ length (numbers_in l.rows l.precinct l.place.line (range_with_len l.first (l.band - l.first)));
-  most : l.bits ≤ 64 * sum_by (band_groups l.rows.layout) (range_with_len l.first (l.band - l.first));
+  most : l.bits ≤ 2 ^ 17 * (l.band - l.first);
 }

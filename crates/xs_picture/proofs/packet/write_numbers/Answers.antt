@@ -1,7 +1,7 @@
 use Rattle.std.proofs.Common.{◌≡◌, ℕ, ℤ, ◌-◌, ◌≤◌, ◌++◌, List, length, sym, ap, ◌∙◌, arith}
 use Rattle.std.specs.List.{flat_map, range_with_len}
 use Rattle.xs_params.specs.declared.header.Header.{Header}
-use Rattle.xs_grammar.specs.Geometry.{packet_bands}
+use Rattle.xs_params.specs.Geometry.{packet_bands}
 use Rattle.xs_geometry.specs.Places.{place_of}
 use Rattle.xs_lines.specs.Rows.{data_bits}
 use Rattle.xs_picture.specs.PacketBits.{line_row, packet_numbers}

@@ -1,6 +1,6 @@
 use Rattle.std.proofs.Common.{◌≡◌, ℕ, ◌++◌, ap, ◌∙◌, append_assoc}
 use Rattle.xs_lists.specs.Bits.{bits_of_fields}
-use Rattle.xs_grammar.specs.Geometry.{bands_of}
+use Rattle.xs_params.specs.Geometry.{bands_of}
 use Rattle.xs_picture.specs.PacketBits.{aligned, body_bits, precinct_head}
 use Rattle.xs_picture.proofs.Linked.{precinct_linked}
 use Rattle.xs_picture.proofs.precinct.write_precinct.Goals as goal

@@ -1,7 +1,7 @@
 use Rattle.std.proofs.Common.{◌≡◌, ℕ, ◌+◌, ◌-◌, ◌<◌, List, drop, length, get_or, refl, sym, ap, subst, ◌∙◌, arith, length-append}
 use Rattle.std.proofs.lemmas.List.{length-drop, get_or-drop}
 use Rattle.xs_lists.specs.Spelling.{BeginsWith}
-use Rattle.xs_grammar.specs.Slice.{eoc}
+use Rattle.xs_params.specs.Markers.{eoc}
 use Rattle.xs_picture.specs.Reading.{IsStreamRefusal}
 use Rattle.xs_picture.proofs.reader.read_end.Goals.{then-bytes-place-via-then-bytes-place, then-bytes-place-via-else-bytes-place+then-bytes-place-ne17}
 use Rattle.xs_picture.proofs.reader.read_end.Goals as goal

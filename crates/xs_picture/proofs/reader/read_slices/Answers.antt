@@ -1,8 +1,8 @@
 use Rattle.std.proofs.Common.{◌≡◌, inl, inr, ◌+◌, ◌-◌, ◌<◌, [], ◌∷◌, ◌++◌, take, drop, length, sym, ap, subst, ◌∙◌, arith}
 use Rattle.std.specs.Prelude.{Err}
 use Rattle.std.proofs.lemmas.List.{take_rest, drop-drop, length-drop}
-use Rattle.xs_grammar.specs.Geometry.{slice_count}
-use Rattle.xs_grammar.specs.Header.{IsAccepted}
+use Rattle.xs_params.specs.Geometry.{slice_count}
+use Rattle.xs_params.specs.Accepted.{IsAccepted}
 use Rattle.xs_decoding.specs.Built.{HasBuiltValues}
 use Rattle.xs_faults.specs.declared.PrecinctFault.TheVariants as precinct_fault
 use Rattle.xs_faults.specs.declared.SliceFault.TheVariants as slice_fault
@@ -76,9 +76,9 @@ slices-preserved c =
     (subst (λ x. IsSliceRead x slice rows (take (length bytes - place) (drop place bytes)) size) (c.header.ensures ∙ c.slices.invariant.header) c.in-Ok.ensures.read) in
     let more = more_read h slice c.slices.coefs.slices rows (drop c.args.start bytes) (drop place bytes) size c.requires.headed.headed.spelled.accepted c.slices.invariant.read read in
     record {
-      header = c.in-Ok-push.ensures.header ∙ c.slices.invariant.header;
+      header = c.in_ok-push.ensures.header ∙ c.slices.invariant.header;
       within = omega (arith, read.enough, length-drop place bytes, c.slices.invariant.within);
-      read = subst (λ s. AreSlicesRead h (slice + 1) s (drop c.args.start bytes) (drop (place + size) bytes)) (sym c.in-Ok-push.ensures.added)
+      read = subst (λ s. AreSlicesRead h (slice + 1) s (drop c.args.start bytes) (drop (place + size) bytes)) (sym c.in_ok-push.ensures.added)
           (subst (AreSlicesRead h (slice + 1) (c.slices.coefs.slices ++ rows ∷ []) (drop c.args.start bytes)) (drop-drop size place bytes) more);
     }
 

@@ -2,7 +2,7 @@ use Rattle.std.proofs.Common.{rules, ◌≡◌, drop, sym, ap, subst, ◌∙◌,
 use Rattle.std.specs.Prelude.{◌⊎◌, Err, Some}
 use Rattle.std.specs.Result.{result_err}
 use Rattle.xs_params.specs.declared.header.Header.{Header}
-use Rattle.xs_grammar.specs.Geometry.{slice_count}
+use Rattle.xs_params.specs.Geometry.{slice_count}
 use Rattle.xs_picture.specs.StreamRead.{IsHeaderRead, AreSlicesRead}
 use Rattle.xs_picture.proofs.Results.{is_err, err_one, ok_named}
 use Rattle.xs_picture.proofs.StreamsRead.{stream_read, no_end, no_length}

@@ -7,7 +7,7 @@ use Rattle.std.proofs.Math.Seq.{map-set_same}
 use Rattle.xs_bits.specs.Reading.{left}
 use Rattle.xs_lists.proofs.Each.{each-more}
 use Rattle.xs_spelling.specs.Data.{SpellsData}
-use Rattle.xs_read_lines.specs.ReadLine.{HasCounts, Buffered, line_of}
+use Rattle.xs_read_lines.specs.ReadLine.{HasCounts, Buffered, line_of_read}
 use Rattle.xs_slice_read.specs.Packet.{known_of, counted_line, line_size, HoldLines}
 use Rattle.xs_slice_read.proofs.Counted.{same_known, all_set, all_at}
 use Rattle.xs_slice_read.proofs.Numbered.{sized, hold_more, held_sizes, sizes_of, read_line, holds_read, same_counted, counts_kept}
@@ -48,6 +48,6 @@ bands-preserved c =
         read.1 ++ one.front,
         subst (λ l. HoldLines c.args.kind l (read.0 ++ line ∷ [])) (sym more) (hold_more c.args.kind (take c.bands.k c.bands.bands) read.0 b line read.2 held),
         read.3 ∙ ap (λ l. read.1 ++ l) one.joined ∙ sym (append_assoc read.1 one.front (left c.read_numbers.new.input)),
-        each-more (λ line. SpellsData false (line_of line)) read.0 line read.1 one.front read.4 one.spelled,
+        each-more (λ line. SpellsData false (line_of_read line)) read.0 line read.1 one.front read.4 one.spelled,
       );
     }

@@ -5,7 +5,7 @@ use Rattle.xs_lists.specs.Bits.{bits_of_bytes}
 use Rattle.xs_lists.specs.Spelling.{SpellsEach}
 use Rattle.xs_bits.specs.Reading.{left}
 use Rattle.xs_spelling.specs.Data.{SpellsData}
-use Rattle.xs_read_lines.specs.ReadLine.{HasCounts, ReadLine, line_of}
+use Rattle.xs_read_lines.specs.ReadLine.{HasCounts, ReadLine, line_of_read}
 use Rattle.xs_slice_read.specs.Packet.{known_of, counted_line, HoldLines}
 use Rattle.xs_slice_read.proofs.packet.read_numbers.Given as goal
 
@@ -15,5 +15,5 @@ invariant-bands l = record {
   same : map counted_line l.bands ≡ map counted_line l.initial.bands;
   counted : AllByRecursion HasCounts l.bands;
   read : (lines : List ReadLine) × (front : List ℕ) × HoldLines l.kind (take l.k l.bands) lines × (bits_of_bytes l.bytes ≡ front ++ left l.input)
-      × SpellsEach (λ line. SpellsData false (line_of line)) lines front;
+      × SpellsEach (λ line. SpellsData false (line_of_read line)) lines front;
 }

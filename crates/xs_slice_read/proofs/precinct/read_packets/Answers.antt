@@ -1,7 +1,7 @@
 use Rattle.std.proofs.Common.{◌≡◌, ◌-◌, ◌<◌, ◌≤◌, map, take, drop, length, refl, sym, ap, subst, ◌∙◌, arith, inl, inr}
 use Rattle.std.specs.Prelude.{Result, Ok, Err}
 use Rattle.xs_params.specs.declared.header.Header.{Header}
-use Rattle.xs_grammar.specs.Geometry.{packets_of}
+use Rattle.xs_params.specs.Geometry.{packets_of}
 use Rattle.xs_geometry.specs.Places.{place_of, packet_at, HasBands}
 use Rattle.xs_geometry.proofs.WrittenRows.{accepted_ranges}
 use Rattle.xs_faults.specs.declared.PrecinctFault.{PrecinctFault}

@@ -2,8 +2,7 @@ use Rattle.std.proofs.Common.{◌≡◌, ℕ, ◌+◌, ◌*◌, ◌-◌, ◌≤�
 use Rattle.std.specs.List.{range_with_len}
 use Rattle.xs_layout.specs.Geometry.{components_of, PacketPlace}
 use Rattle.xs_params.specs.declared.header.Header.{Header}
-use Rattle.xs_grammar.specs.Geometry.{bands_of, packet_bands}
-use Rattle.xs_geometry.specs.Kept.{geometry_of}
+use Rattle.xs_params.specs.Geometry.{bands_of, packet_bands, geometry_of}
 use Rattle.xs_geometry.specs.Places.{place_of}
 use Rattle.xs_slice_read.specs.Packet.{known_of, IsPacketRefusal}
 use Rattle.xs_slice_read.proofs.Placed.{part_kept, map_part, same_window, is_part, band_in, wide_enough, packet_put}

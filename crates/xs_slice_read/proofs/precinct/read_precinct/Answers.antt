@@ -2,13 +2,13 @@ use Rattle.std.proofs.Common.{◌≡◌, ℕ, ◌+◌, ◌-◌, ◌*◌, ◌<◌
 use Rattle.std.specs.Prelude.{Bool, true, false, not, Ok, Err, Result, List}
 use Rattle.xs_lists.specs.Bits.{bits_of_fields, bytes_for}
 use Rattle.xs_lists.specs.Spelling.{SpellsPadded}
-use Rattle.xs_grammar.specs.Geometry.{bands_of, packets_of, slice_count}
+use Rattle.xs_params.specs.Geometry.{bands_of, packets_of, slice_count}
 use Rattle.xs_geometry.proofs.WrittenRows.{accepted_ranges}
 use Rattle.xs_faults.specs.declared.PrecinctFault.{PrecinctFault}
 use Rattle.xs_faults.specs.declared.PrecinctFault.TheVariants as fault
 use Rattle.xs_decoding.specs.Built.{precinct_head_size, stated_size}
 use Rattle.xs_slice_read.specs.Precinct.{plain_fields, ArePacketsRead, ArePacketsRefused, HasModeAmong, HasRawAfter, IsPrecinctRead}
-use Rattle.xs_slice_read.proofs.Precincts.{stated_front, cut_head, cut_body, not_whole, unbuilt_mode, mode_alone, packets_of_precinct, precinct_read}
+use Rattle.xs_slice_read.proofs.Precincts.{stated_front, cut_head, cut_body, not_whole, whole_precinct, unbuilt_mode, mode_alone, packets_of_precinct, precinct_read}
 use Rattle.xs_slice_read.proofs.Walked.{slice_there}
 use Rattle.xs_slice_read.proofs.Unbuilt.{raw_of_unbuilt, refusal_of_packets}
 use Rattle.xs_slice_read.proofs.precinct.read_precinct.Goals as goal
@@ -45,7 +45,7 @@ returns-then-bytes-first-clause-refused c =
     let count : c.bands-count.result ≡ bands_of h = c.bands-count.ensures.count ∙ ap bands_of c.requires.geometry in
     let n = c.head_size-first.result in
     let first : n ≡ precinct_head_size h = c.head_size-first.ensures ∙ ap (λ k. bytes_for (40 + 2 * k)) count in
-    cut_head h precinct bytes (omega (arith, first, c.if-bytes-first.true))
+    cut_head h bytes (omega (arith, first, c.if-bytes-first.true))
 
 pub returns-then-bytes-first-2-clause-refused : goal.returns-then-bytes-first-2-clause-refused
 returns-then-bytes-first-2-clause-refused c =
@@ -57,7 +57,7 @@ returns-then-bytes-first-2-clause-refused c =
     let first : n ≡ precinct_head_size h = c.head_size-first.ensures ∙ ap (λ k. bytes_for (40 + 2 * k)) count in
     let size = c.read_head-head.result.size in
     let said : size ≡ stated_size bytes = c.read_head-head.ensures.size ∙ stated_front n bytes c.if-bytes-first.false (omega (arith, c.head_size-first.ensures)) in
-    cut_body h precinct bytes size said (omega (arith, first, c.if-bytes-first.false, c.if-bytes-first-2.true))
+    cut_body h bytes size said (omega (arith, first, c.if-bytes-first.false, c.if-bytes-first-2.true))
 
 pub returns-then-bytes-first-2-clause-unbuilt : goal.returns-then-bytes-first-2-clause-unbuilt
 returns-then-bytes-first-2-clause-unbuilt c = λ packet p.
@@ -203,3 +203,36 @@ returns-in-Err-clause-unbuilt c = λ packet p.
       | inl e ↦ inl (made_error c.in-Err.fault (fault.Unbuilt packet) (err_one c.in-Err.fault (fault.Unbuilt packet) e))
       | inr e ↦ inr (e.0, made_error c.in-Err.fault fault.Memory (err_one c.in-Err.fault fault.Memory e.1))
     ]
+
+pub returns-then-not-head-clause-cut : goal.returns-then-not-head-clause-cut
+returns-then-not-head-clause-cut c = λ cut.
+    let h = c.args.header.now in
+    let bytes = c.args.bytes.now in
+    let count : c.bands-count.result ≡ bands_of h = c.bands-count.ensures.count ∙ ap bands_of c.requires.geometry in
+    let n = c.head_size-first.result in
+    let first : n ≡ precinct_head_size h = c.head_size-first.ensures ∙ ap (λ k. bytes_for (40 + 2 * k)) count in
+    let size = c.read_head-head.result.size in
+    let said : size ≡ stated_size bytes = c.read_head-head.ensures.size ∙ stated_front n bytes c.if-bytes-first.false (omega (arith, c.head_size-first.ensures)) in
+    absurd (cut (whole_precinct h bytes size said (omega (arith, first, c.if-bytes-first.false, c.if-bytes-first-2.false))))
+
+pub returns-in-Ok-clause-cut : goal.returns-in-Ok-clause-cut
+returns-in-Ok-clause-cut c = λ cut.
+    let h = c.args.header.now in
+    let bytes = c.args.bytes.now in
+    let count : c.bands-count.result ≡ bands_of h = c.bands-count.ensures.count ∙ ap bands_of c.requires.geometry in
+    let n = c.head_size-first.result in
+    let first : n ≡ precinct_head_size h = c.head_size-first.ensures ∙ ap (λ k. bytes_for (40 + 2 * k)) count in
+    let size = c.read_head-head.result.size in
+    let said : size ≡ stated_size bytes = c.read_head-head.ensures.size ∙ stated_front n bytes c.if-bytes-first.false (omega (arith, c.head_size-first.ensures)) in
+    absurd (cut (whole_precinct h bytes size said (omega (arith, first, c.if-bytes-first.false, c.if-bytes-first-2.false))))
+
+pub returns-in-Err-clause-cut : goal.returns-in-Err-clause-cut
+returns-in-Err-clause-cut c = λ cut.
+    let h = c.args.header.now in
+    let bytes = c.args.bytes.now in
+    let count : c.bands-count.result ≡ bands_of h = c.bands-count.ensures.count ∙ ap bands_of c.requires.geometry in
+    let n = c.head_size-first.result in
+    let first : n ≡ precinct_head_size h = c.head_size-first.ensures ∙ ap (λ k. bytes_for (40 + 2 * k)) count in
+    let size = c.read_head-head.result.size in
+    let said : size ≡ stated_size bytes = c.read_head-head.ensures.size ∙ stated_front n bytes c.if-bytes-first.false (omega (arith, c.head_size-first.ensures)) in
+    absurd (cut (whole_precinct h bytes size said (omega (arith, first, c.if-bytes-first.false, c.if-bytes-first-2.false))))

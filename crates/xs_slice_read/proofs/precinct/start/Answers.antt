@@ -4,7 +4,7 @@ use Rattle.std.proofs.Math.Seq.{map-set_same}
 use Rattle.xs_lists.specs.Spelling.{upto}
 use Rattle.xs_layout.specs.declared.Weight.{Weight}
 use Rattle.xs_layout.specs.Weighting.{truncation_of}
-use Rattle.xs_grammar.specs.Geometry.{bands_of}
+use Rattle.xs_params.specs.Geometry.{bands_of}
 use Rattle.xs_read_lines.specs.ReadLine.{Buffered}
 use Rattle.xs_slice_read.specs.Packet.{known_of}
 use Rattle.xs_slice_read.proofs.Started.{bands_counted, known_at, started_more}

@@ -7,6 +7,6 @@ pub bands-preserved : goal.bands-preserved
 bands-preserved c =
     let same : (c.band_width.result + 3) / 4 ≡ (c.band_width.result + 4 - 1) / 4 = omega arith in
     record {
-      groups = groups_more c.args.geometry.now c.bands.bands.items c.add.new.bands.items c.bands.band c.in-Ok.line.groups c.in-Ok.line c.bands.invariant.groups c.in-Ok-add.ensures.added
-          (c.in-Ok.ensures ∙ same ∙ ap groups_of c.band_width.ensures.columns);
+      groups = groups_more c.args.geometry.now c.bands.bands.items c.add.new.bands.items c.bands.band c.in_ok-line.line.groups c.in_ok-line.line c.bands.invariant.groups c.in_ok-add.ensures.added
+          (c.in_ok-line.ensures ∙ same ∙ ap groups_of c.band_width.ensures.columns);
     }

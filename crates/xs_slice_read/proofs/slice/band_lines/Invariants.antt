@@ -1,7 +1,7 @@
 use Rattle.std.proofs.Common.{◌≡◌, map}
 use Rattle.xs_lists.specs.Spelling.{upto}
 use Rattle.xs_layout.specs.Geometry.{groups_of}
-use Rattle.xs_grammar.specs.Geometry.{band_width_of}
+use Rattle.xs_params.specs.Geometry.{band_width_of}
 use Rattle.xs_read_lines.specs.ReadLine.{Buffered}
 use Rattle.xs_slice_read.proofs.slice.band_lines.Given as goal
 

@@ -2,7 +2,7 @@ use Rattle.std.proofs.Common.{◌≡◌, length, pos, suc, ◌+◌, ◌*◌, ◌
 use Rattle.std.proofs.Math.ListN.{set}
 use Rattle.std.proofs.Math.Nat.{pow-le-pow_right}
 use Rattle.std.proofs.lemmas.List.{length-replicate}
-use Rattle.xs_signal.specs.Wavelet.{Split, low_count, bands_of}
+use Rattle.xs_signal.specs.Wavelet.{Split, low_count, bands_of_plane}
 use Rattle.xs_wave.specs.Corners.{part_at}
 use Rattle.xs_wave.specs.Planes.{plane_of, HasSize}
 use Rattle.xs_wave.specs.Bands.{IsComponent, AreBandPlanes, ShowBands}
@@ -100,4 +100,4 @@ returns-clause-bands c =
     let ended : c.loop-level.level ≡ s.across = omega (arith, c.loop-level-test.false, across, some) in
     let done = split_done s p (part_at s s.across work) planes component.deep (subst (λ l. IsSplitTo s p l (part_at s l work) planes) ended c.loop-level.invariant.split) in
     let stored : c.put.new.self ≡ set planes 0 (part_at s s.across work) = c.put.ensures ∙ ap (set planes 0) c.in_ok-low_part.ensures in
-    subst (λ t. ShowBands t c.put.new.self (bands_of t p)) same (subst (λ x. ShowBands s x (bands_of s p)) (sym stored) done.1)
+    subst (λ t. ShowBands t c.put.new.self (bands_of_plane t p)) same (subst (λ x. ShowBands s x (bands_of_plane s p)) (sym stored) done.1)

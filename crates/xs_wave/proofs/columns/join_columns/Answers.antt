@@ -1,7 +1,7 @@
 use Rattle.std.proofs.Common.{◌≡◌, ◌+◌, ◌*◌, ◌/◌, ◌%◌, ◌^◌, ◌<◌, ◌+ℤ◌, arith, ap, sym, subst, ◌∙◌, inl, inr}
 use Rattle.std.proofs.lemmas.Bool.{cases_eq}
 use Rattle.xs_signal.specs.Lines.{column_of, entries_of}
-use Rattle.xs_signal.specs.Wavelet.{even_of, predicted, inverse_line}
+use Rattle.xs_signal.specs.Wavelet.{even_of, predicted_sample, inverse_line}
 use Rattle.xs_signal.proofs.LineLaws.{inverse_even, inverse_odd, predicted_same}
 use Rattle.xs_wave.specs.Planes.{plane_of}
 use Rattle.xs_wave.specs.Corners.{even_rows, odd_rows}
@@ -37,7 +37,7 @@ returns-clause-joined c row column inside within =
           let below : 2 * k + 1 < n = omega (arith, place, inside) in
           let same = predicted_same n k even (even_of n low high) below (λ j less. c.join_even_rows.ensures.even j column less within) in
           let there : new (2 * k + 1) column ≡ inverse_line n low high (2 * k + 1) =
-          c.join_odd_rows.ensures.high k column (omega (arith, below)) within ∙ ap (λ z. z +ℤ predicted n even k) (ap (λ r. entries_of r column) (c.join_even_rows.ensures.odd k)) ∙ ap (λ z. high k +ℤ z) same
+          c.join_odd_rows.ensures.high k column (omega (arith, below)) within ∙ ap (λ z. z +ℤ predicted_sample n even k) (ap (λ r. entries_of r column) (c.join_even_rows.ensures.odd k)) ∙ ap (λ z. high k +ℤ z) same
           ∙ sym (inverse_odd n low high k) in
           subst (λ r. new r column ≡ inverse_line n low high r) place there
     ]

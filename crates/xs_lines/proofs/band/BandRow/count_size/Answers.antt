@@ -1,5 +1,5 @@
 use Rattle.std.proofs.Common.{◌≡◌, ◌+◌, ◌≤◌, length, sum_by, sym, ap, subst, ◌∙◌, arith}
-use Rattle.xs_lines.specs.Rows.{row_counts, IsLine}
+use Rattle.xs_lines.specs.Rows.{counts_in_row, IsLine}
 use Rattle.xs_lines.proofs.Rows as rows
 use Rattle.xs_lines.proofs.band.BandRow.count_size.Goals as goal
 
@@ -7,21 +7,21 @@ pub bits_of_counts-requires : goal.bits_of_counts-requires
 bits_of_counts-requires c =
     let row = c.args.self.now in
     let line : IsLine row = subst IsLine c.self.view_is c.self.invariant.1 in
-    let same : c.as_slice.result.now ≡ row_counts row = c.as_slice.ensures.value ∙ c.self.invariant.0 ∙ ap row_counts c.self.view_is in
+    let same : c.as_slice.result.now ≡ counts_in_row row = c.as_slice.ensures.value ∙ c.self.invariant.0 ∙ ap counts_in_row c.self.view_is in
     subst (λ l. length l ≤ 2048) (sym same) (rows.few row line)
 
 pub returns-clause-size : goal.returns-clause-size
 returns-clause-size c =
     let row = c.args.self.now in
     let line : IsLine row = subst IsLine c.self.view_is c.self.invariant.1 in
-    let same : c.as_slice.result.now ≡ row_counts row = c.as_slice.ensures.value ∙ c.self.invariant.0 ∙ ap row_counts c.self.view_is in
+    let same : c.as_slice.result.now ≡ counts_in_row row = c.as_slice.ensures.value ∙ c.self.invariant.0 ∙ ap counts_in_row c.self.view_is in
     c.bits_of_counts.ensures ∙ ap (sum_by (λ count. count + 1)) same ∙ sym (rows.length-count_bits row)
 
 pub returns-clause-most : goal.returns-clause-most
 returns-clause-most c =
     let row = c.args.self.now in
     let line : IsLine row = subst IsLine c.self.view_is c.self.invariant.1 in
-    let same : c.as_slice.result.now ≡ row_counts row = c.as_slice.ensures.value ∙ c.self.invariant.0 ∙ ap row_counts c.self.view_is in
+    let same : c.as_slice.result.now ≡ counts_in_row row = c.as_slice.ensures.value ∙ c.self.invariant.0 ∙ ap counts_in_row c.self.view_is in
     let size = c.bits_of_counts.ensures ∙ ap (sum_by (λ count. count + 1)) same ∙ sym (rows.length-count_bits row) in
     omega (arith, size, rows.count_most row, line.whole)
 
@@ -29,6 +29,6 @@ pub returns-clause-few : goal.returns-clause-few
 returns-clause-few c =
     let row = c.args.self.now in
     let line : IsLine row = subst IsLine c.self.view_is c.self.invariant.1 in
-    let same : c.as_slice.result.now ≡ row_counts row = c.as_slice.ensures.value ∙ c.self.invariant.0 ∙ ap row_counts c.self.view_is in
+    let same : c.as_slice.result.now ≡ counts_in_row row = c.as_slice.ensures.value ∙ c.self.invariant.0 ∙ ap counts_in_row c.self.view_is in
     let size = c.bits_of_counts.ensures ∙ ap (sum_by (λ count. count + 1)) same ∙ sym (rows.length-count_bits row) in
     omega (arith, size, rows.count_most row, line.whole, line.most)

@@ -1,4 +1,4 @@
--- A slice where a precinct is of a form that is not read yet: it is read up to there.
+-- A slice where in the place of a precinct stands what is none: it is read up to there.
 use Rattle.std.proofs.Common.{◌≡◌, ℕ, zero, suc, ◌+◌, ◌-◌, ◌*◌, ◌<◌, ◌≤◌, inl, inr, List, [], ◌∷◌, ◌++◌, drop, length, refl, sym, ap, subst, ◌∙◌, arith, min, append_assoc}
 use Rattle.std.specs.Prelude.{◌⊎◌, ⊤}
 use Rattle.std.specs.List.{range_with_len, AllByRecursion}
@@ -10,17 +10,18 @@ use Rattle.xs_params.specs.declared.header.Header.{Header}
 use Rattle.xs_faults.specs.declared.PrecinctFault.{PrecinctFault}
 use Rattle.xs_faults.specs.declared.PrecinctFault.TheVariants as precinct_fault
 use Rattle.xs_faults.specs.declared.SliceFault.TheVariants as fault
-use Rattle.xs_grammar.specs.Geometry.{precinct_count}
-use Rattle.xs_grammar.specs.Header.{IsAccepted}
+use Rattle.xs_params.specs.Geometry.{precinct_count}
+use Rattle.xs_params.specs.Accepted.{IsAccepted}
 use Rattle.xs_grammar.specs.Precinct.{Content}
 use Rattle.xs_grammar.specs.Slice.{slice_head}
 use Rattle.xs_geometry.specs.SliceLines.{BandLines}
 use Rattle.xs_geometry.proofs.WrittenRows.{accepted_ranges}
-use Rattle.xs_decoding.specs.Built.{HasBuiltValues, IsBuiltPrecinct, IsUnbuilt}
+use Rattle.xs_decoding.specs.Built.{HasBuiltValues, IsBuiltPrecinct, IsUnbuilt, IsWholePrecinct}
 use Rattle.xs_decoding.proofs.Precincts.{precinct_ends}
 use Rattle.xs_decoding.proofs.Unread.{built_is_built, one_unbuilt}
 use Rattle.xs_slice_read.specs.Precinct.{BeginWithPrecinct, IsPrecinctRefusal}
-use Rattle.xs_slice_read.specs.Slice.{slice_fault_of, IsUnbuiltIn}
+use Rattle.xs_slice_read.specs.Slice.{slice_fault_of, IsStoppedIn, IsUnbuiltIn}
+use Rattle.xs_slice_read.proofs.Precincts.{whole_begins}
 use Rattle.xs_slice_read.proofs.PlainPrecincts.{precinct_begins}
 use Rattle.xs_slice_read.proofs.Slices.{SliceSoFar, split_at}
 
@@ -101,7 +102,7 @@ has_precinct h content first k end list low high p = record {
     here : SpellsEach (IsBuiltPrecinct h content) (k ∷ later) cut.1
     here = cut.4
 
--- A slice that is read up to a precinct, where another precinct of it is of such a form
+-- A slice that is read up to a precinct, where in the place of another one stands what is none
 
 -- the precincts before one are those of a content
 pub record AreBefore (h : Header) (slice : ℕ) (bytes : List ℕ) (precinct : ℕ) (rest : List ℕ) : Type 0 where
@@ -120,8 +121,8 @@ so_far_before h slice rows bytes place precinct low so = record {
   spelled = so.spelled;
 }
 
-unbuilt_before : (h : Header) (slice : ℕ) (bytes : List ℕ) (precinct packet : ℕ) → (u : IsUnbuiltIn h slice bytes precinct packet) → AreBefore h slice bytes precinct u.rest
-unbuilt_before h slice bytes precinct packet u =
+stopped_before : (h : Header) (slice : ℕ) (bytes : List ℕ) (precinct : ℕ) (stops : List ℕ → Type 0) → (u : IsStoppedIn h slice bytes precinct stops) → AreBefore h slice bytes precinct u.rest
+stopped_before h slice bytes precinct stops u =
     let stands = stands_in (slice * h.hsl) (min ((slice + 1) * h.hsl) (precinct_count h) - slice * h.hsl) precinct u.earlier u.later u.order in
     record {
       content = u.content;
@@ -131,21 +132,31 @@ unbuilt_before h slice bytes precinct packet u =
       spelled = subst (λ l. SpellsEach (IsBuiltPrecinct h u.content) l u.precincts) stands.before u.spelled;
     }
 
-module _ (h : Header) (slice : ℕ) (bytes : List ℕ) (precinct target packet : ℕ) (rest : List ℕ) (accepted : IsAccepted h) (values : HasBuiltValues h) (so : AreBefore h slice bytes precinct rest)
-    (u : IsUnbuiltIn h slice bytes target packet) where
+-- no precinct that is read stands where the bytes are as said
+abbrev pub Stops : Header → (ℕ → List ℕ → Type 0) → Type 0
+Stops h stops = (content : Content) (precinct : ℕ) (part more : List ℕ) → IsBuiltPrecinct h content precinct part → stops precinct (part ++ more) → ⊥
+
+pub unbuilt_stops : (h : Header) (packet : ℕ) → IsAccepted h → HasBuiltValues h → Stops h (λ precinct rest. IsUnbuilt h precinct rest packet)
+unbuilt_stops h packet accepted values content precinct part more built u = built_is_built h content precinct packet part more accepted values.runs values.signs built u
+
+pub cut_stops : (h : Header) → IsAccepted h → HasBuiltValues h → Stops h (λ precinct rest. IsWholePrecinct h rest → ⊥)
+cut_stops h accepted values content precinct part more built cut =
+    cut (whole_begins h precinct (part ++ more) (precinct_begins h content precinct part more values.signs (accepted_ranges h accepted).0 built))
+
+module _ (h : Header) (slice : ℕ) (bytes : List ℕ) (precinct target : ℕ) (rest : List ℕ) (accepted : IsAccepted h) (values : HasBuiltValues h) (so : AreBefore h slice bytes precinct rest) (stops : ℕ → List ℕ → Type 0) (never : Stops h stops)
+    (u : IsStoppedIn h slice bytes target (stops target)) where
   abbrev first : ℕ
   first = slice * h.hsl
 
   before : AreBefore h slice bytes target u.rest
-  before = unbuilt_before h slice bytes target packet u
+  before = stopped_before h slice bytes target (stops target) u
 
   whole : so.front ++ rest ≡ before.front ++ u.rest
   whole = (append_cut (slice_head slice) (slice_head slice) (so.front ++ rest) (before.front ++ u.rest) refl (sym so.joined ∙ before.joined)).1
 
   -- it is not read
   not_passed : target < precinct → ⊥
-  not_passed past =
-      built_is_built h so.content target packet one.part (one.after ++ rest) accepted values.runs values.signs one.built (subst (λ l. IsUnbuilt h target l packet) (sym rests) u.unbuilt)
+  not_passed past = never so.content target one.part (one.after ++ rest) one.built (subst (stops target) (sym rests) u.stopped)
     where
       one : HasPrecinct h so.content first target so.front
       one = has_precinct h so.content first target precinct so.front before.low past so.spelled
@@ -161,8 +172,8 @@ module _ (h : Header) (slice : ℕ) (bytes : List ℕ) (precinct target packet :
       not_passed (omega (arith, end, stands.low, stands.high))
 
   -- it stands here
-  here_unbuilt : precinct ≡ target → IsUnbuilt h precinct rest packet
-  here_unbuilt same = subst (λ k. IsUnbuilt h k rest packet) (sym same) (subst (λ l. IsUnbuilt h target l packet) (sym rests) u.unbuilt)
+  stopped_here : precinct ≡ target → stops precinct rest
+  stopped_here same = subst (λ k. stops k rest) (sym same) (subst (stops target) (sym rests) u.stopped)
     where
       rests : rest ≡ u.rest
       rests = same_rests h so.content before.content first (target - first) so.front before.front rest u.rest
@@ -179,7 +190,7 @@ module _ (h : Header) (slice : ℕ) (bytes : List ℕ) (precinct target packet :
       rests = same_rests h so.content before.content first (precinct - first) so.front one.before rest (one.part ++ (one.after ++ u.rest)) so.spelled one.spelled
           (whole ∙ ap (λ l. l ++ u.rest) one.joined ∙ append_assoc one.before (one.part ++ one.after) u.rest ∙ ap (λ l. one.before ++ l) (append_assoc one.part one.after u.rest))
 
-  -- which is of no such form
+  -- which is of no form that is not read
   here_built : (number : ℕ) → precinct < target → IsUnbuilt h precinct rest number → ⊥
   here_built number less v =
       let here = built_here less in
@@ -197,36 +208,35 @@ module _ (h : Header) (slice : ℕ) (bytes : List ℕ) (precinct target packet :
       cases : (f : PrecinctFault) → IsPrecinctRefusal h precinct rest f → f ≡ precinct_fault.Memory
       cases (precinct_fault.Overrun number part) none = absurd (none begins)
       cases (precinct_fault.Count number value) none = absurd (none begins)
-      cases precinct_fault.Truncated none = absurd (none begins)
+      cases precinct_fault.Truncated cut = absurd (cut (whole_begins h precinct rest begins))
       cases (precinct_fault.Unbuilt number) none = absurd (here_built number less none)
       cases precinct_fault.Memory none = refl
 
-  -- so the refusal of the precinct here names the one of such a form, or it is want of memory
-  pub refused_unbuilt : (f : PrecinctFault) → IsPrecinctRefusal h precinct rest f → ((number : ℕ) → IsUnbuilt h precinct rest number → (f ≡ precinct_fault.Unbuilt number) ⊎ (f ≡ precinct_fault.Memory))
-      → (slice_fault_of precinct f ≡ fault.Precinct target (precinct_fault.Unbuilt packet)) ⊎ (slice_fault_of precinct f ≡ fault.Memory)
-  refused_unbuilt f none exact = elim (three precinct target) [
+  -- so the refusal of the precinct here is the one that what stands there gives, or it is want of memory
+  pub refused_stopped : (f named : PrecinctFault) → IsPrecinctRefusal h precinct rest f → (stops precinct rest → (f ≡ named) ⊎ (f ≡ precinct_fault.Memory))
+      → (slice_fault_of precinct f ≡ slice_fault_of target named) ⊎ (slice_fault_of precinct f ≡ fault.Memory)
+  refused_stopped f named none exact = elim (three precinct target) [
     | inl less ↦ inr (ap (slice_fault_of precinct) (memory_alone f less none))
     | inr other ↦ elim other [
-      | inl same ↦ elim (exact packet (here_unbuilt same)) [
-        | inl named ↦ inl (ap (slice_fault_of precinct) named ∙ ap (λ k. fault.Precinct k (precinct_fault.Unbuilt packet)) same)
+      | inl same ↦ elim (exact (stopped_here same)) [
+        | inl is ↦ inl (ap (slice_fault_of precinct) is ∙ ap (λ k. slice_fault_of k named) same)
         | inr memory ↦ inr (ap (slice_fault_of precinct) memory)
       ]
       | inr past ↦ absurd (not_passed past)
     ]
   ]
 
-  -- and where one stands here, it is that
-  one_here : (number : ℕ) → IsUnbuilt h precinct rest number → (precinct ≡ target) × (number ≡ packet)
-  one_here number v = elim (three precinct target) [
+  -- and where a form that is not read stands here, it is that place
+  unbuilt_here : (number : ℕ) → IsUnbuilt h precinct rest number → (precinct ≡ target) × stops precinct rest
+  unbuilt_here number v = elim (three precinct target) [
     | inl less ↦ absurd (here_built number less v)
-    | inr other ↦ elim other [
-      | inl same ↦ (same, one_unbuilt h precinct number packet rest (omega (arith, accepted.nly)) v (here_unbuilt same))
-      | inr past ↦ absurd (not_passed past)
-    ]
+    | inr other ↦ elim other [ inl same ↦ (same, stopped_here same) | inr past ↦ absurd (not_passed past) ]
   ]
 
--- a slice has one such packet, the first
+-- a slice has one packet of a form that is not read, the first
 pub one_unbuilt_in : (h : Header) (slice : ℕ) (bytes : List ℕ) (precinct packet target number : ℕ) → IsAccepted h → HasBuiltValues h → IsUnbuiltIn h slice bytes precinct packet → IsUnbuiltIn h slice bytes target number
     → (precinct ≡ target) × (packet ≡ number)
 one_unbuilt_in h slice bytes precinct packet target number accepted values u v =
-    one_here h slice bytes precinct target number u.rest accepted values (unbuilt_before h slice bytes precinct packet u) v packet u.unbuilt
+    let is : ℕ → ℕ → List ℕ → Type 0 = λ packet precinct rest. IsUnbuilt h precinct rest packet in
+    let here = unbuilt_here h slice bytes precinct target u.rest accepted values (stopped_before h slice bytes precinct (is packet precinct) u) (is number) (unbuilt_stops h number accepted values) v packet u.stopped in
+    (here.0, one_unbuilt h precinct packet number u.rest (omega (arith, accepted.geometry.nly)) u.stopped here.1)
