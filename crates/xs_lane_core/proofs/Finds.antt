@@ -5,11 +5,12 @@ use Rattle.std.proofs.lemmas.List.Sums.{sum_by-cons, get_or-le-sum_by}
 use Rattle.std.proofs.lemmas.List.Elements.{All-contains}
 use mathlib.Core.Logic.{dite}
 use native.Mathlib.Decide.{ℕ_discrete}
-use Rattle.xs_lane_core.specs.Places.{places, last_place, has, HasEvery}
+use Rattle.xs_lane_core.specs.Places.{places, last_place, word_of, has, HasEvery}
 use Rattle.xs_lane_core.specs.Machine.{Placing, Actor, Machine, lane_at, actor_at, nobody}
-use Rattle.xs_lane_core.specs.Sound.{over_stored, at, brings, closes_at, IsOf, NoneClosesBefore, ClosesNotBefore, IsLeastClosing, IsSound}
+use Rattle.xs_lane_core.specs.Sound.{over_stored, at, brings, closes_at, closes_below, IsOf, NoneClosesBefore, ClosesNotBefore, IsLeastClosing, IsSound}
 use Rattle.xs_lane_core.proofs.Lists.{some_term}
-use Rattle.xs_lane_core.proofs.Placed.{at_here, brings_lane, brings_here, brings_own, brings_last, closes_here}
+use Rattle.xs_lane_core.proofs.Sets.{full_has}
+use Rattle.xs_lane_core.proofs.Placed.{at_here, brings_lit, brings_own, brings_last, closes_here, is_below}
 use Rattle.xs_lane_core.proofs.Turns.{stored_within}
 use Rattle.xs_lane_core.proofs.Taking.{some_same}
 
@@ -33,16 +34,26 @@ module _ {V : Type 0} (k : Placing V) where
 
   -- each place that is home, and before which nothing closes, has a stored value
   pub finds : (m : Machine V) → IsSound k m → (l p : ℕ) → has (lane_at m l).home p ≡ 1 → NoneClosesBefore k m l p → (a : ℕ) × (x : V) × (k.lane x ≡ l) × (k.place x ≡ p) × Contains (actor_at m a).stored x
-  finds m s l p home none = let h = s.home_follows l p in let r = some_stored (brings k l p) m (omega arith) in let x : V = r.1 in let here = brings_lane k l p x r.2 in let e = brings_here k l p x here in
-      let lit = r.2 in let own = brings_own k x p (omega arith) (All-contains (ClosesNotBefore k l p) (actor_at m r.0).stored x (none r.0) r.3 here) in (r.0, x, here, own, r.3)
+  finds m s l p home none = let h = s.home_follows l p in let r = some_stored (brings k l p) m (omega arith) in let x : V = r.1 in let lit = brings_lit k l p x r.2 in
+      let own = brings_own k x p lit.1 lit.2 (All-contains (ClosesNotBefore k l p) (actor_at m r.0).stored x (none r.0) r.3 lit.0) in (r.0, x, lit.0, own, r.3)
+
+  -- each place of a whole lane before which nothing closes has a stored value
+  pub finds_whole : (m : Machine V) → IsSound k m → (l p : ℕ) → p < places → HasEvery (lane_at m l).summary → NoneClosesBefore k m l p → (a : ℕ) × (x : V) × (k.lane x ≡ l) × (k.place x ≡ p) × Contains (actor_at m a).stored x
+  finds_whole m s l p low every none = let w : ℕ = word_of p in let due = s.summary_follows.due l w (every w (omega arith)) in ⊎_elim
+      (λ full. finds m s l p (full_has _ p full) none)
+      (λ below. let r = some_stored (closes_below k l w) m below in let x : V = r.1 in let c = is_below k l w x r.2 in
+      let late = All-contains (ClosesNotBefore k l p) (actor_at m r.0).stored x (none r.0) r.3 c.1 c.0 in let lt = c.2 in absurd (omega arith)) due.1
 
   -- a lane that is whole has a closing value
-  pub finds_closing : (m : Machine V) → IsSound k m → (l : ℕ) → HasEvery (lane_at m l).home → (a : ℕ) × (x : V) × (k.lane x ≡ l) × (k.closes x ≡ true) × (k.place x < places) × Contains (actor_at m a).stored x
-  finds_closing m s l every = let h = s.home_follows l last_place in let e = every last_place (omega arith) in let r = some_stored (brings k l last_place) m (omega arith) in let x : V = r.1 in
-      let here = brings_lane k l last_place x r.2 in let b = brings_here k l last_place x here in let lit = r.2 in let closes = brings_last k x (omega arith) in
-      let is = All-contains (IsOf k s.value) (actor_at m r.0).stored x (s.one_holder.stored r.0) r.3 in (r.0, x, here, closes, (s.one_holder.own (k.lane x) (k.place x) x is).2, r.3)
+  pub finds_closing : (m : Machine V) → IsSound k m → (l : ℕ) → HasEvery (lane_at m l).summary → (a : ℕ) × (x : V) × (k.lane x ≡ l) × (k.closes x ≡ true) × (k.place x < places) × Contains (actor_at m a).stored x
+  finds_closing m s l every = let due = s.summary_follows.due l 7 (every 7 (omega arith)) in
+      let there : (a : ℕ) (x : V) → k.lane x ≡ l → k.closes x ≡ true → Contains (actor_at m a).stored x → (a : ℕ) × (x : V) × (k.lane x ≡ l) × (k.closes x ≡ true) × (k.place x < places) × Contains (actor_at m a).stored x = λ a x here closes c.
+      let is = All-contains (IsOf k s.value) (actor_at m a).stored x (s.one_holder.stored a) c in (a, x, here, closes, (s.one_holder.own (k.lane x) (k.place x) x is).2, c) in ⊎_elim
+      (λ full. let home = full_has _ last_place full in let h = s.home_follows l last_place in let r = some_stored (brings k l last_place) m (omega arith) in let x : V = r.1 in
+      let lit = brings_lit k l last_place x r.2 in there r.0 x lit.0 (brings_last k x lit.1 lit.2) r.3)
+      (λ below. let r = some_stored (closes_below k l 7) m below in let c = is_below k l 7 r.1 r.2 in there r.0 r.1 c.1 c.0 r.3) due.1
 
-  pub below_closing : (m : Machine V) → IsSound k m → (l d : ℕ) → HasEvery (lane_at m l).home → NoneClosesBefore k m l d → d < places
+  pub below_closing : (m : Machine V) → IsSound k m → (l d : ℕ) → HasEvery (lane_at m l).summary → NoneClosesBefore k m l d → d < places
   below_closing m s l d every none = let r = finds_closing m s l every in let le = All-contains (ClosesNotBefore k l d) (actor_at m r.0).stored r.1 (none r.0) r.5 r.2 r.3 in let lt = r.4 in omega arith
 
   none_one_further : (m : Machine V) (l d : ℕ) → NoneClosesBefore k m l d → over_stored (closes_at k l d) m ≡ 0 → NoneClosesBefore k m l (suc d)
@@ -58,15 +69,15 @@ module _ {V : Type 0} (k : Placing V) where
       (λ (r : (c : ℕ) × (c < n) × IsLeastClosing k m l c). let lt = r.1 in inr (r.0, omega arith, r.2)) (searches m l n)
 
   -- a lane that is whole has a least closing place
-  pub finds_least : (m : Machine V) → IsSound k m → (l : ℕ) → HasEvery (lane_at m l).home → (c : ℕ) × (c < places) × IsLeastClosing k m l c
+  pub finds_least : (m : Machine V) → IsSound k m → (l : ℕ) → HasEvery (lane_at m l).summary → (c : ℕ) × (c < places) × IsLeastClosing k m l c
   finds_least m s l every = ⊎_elim (λ (none : NoneClosesBefore k m l places). let lt = below_closing m s l places every none in absurd (omega arith)) (λ (r : (c : ℕ) × (c < places) × IsLeastClosing k m l c). r) (searches m l places)
 
   -- all places up to the least closing one are stored
-  pub whole_stored : (m : Machine V) (l : ℕ) → IsSound k m → HasEvery (lane_at m l).home → (c : ℕ) × (c < places) × IsLeastClosing k m l c × ((p : ℕ) → p ≤ c → 0 < over_stored (at k l p) m)
+  pub whole_stored : (m : Machine V) (l : ℕ) → IsSound k m → HasEvery (lane_at m l).summary → (c : ℕ) × (c < places) × IsLeastClosing k m l c × ((p : ℕ) → p ≤ c → 0 < over_stored (at k l p) m)
   whole_stored m l s every = let r = finds_least m s l every in let lt = r.1 in (
     r.0,
     r.1,
     r.2,
     λ p le.
-        let f = finds m s l p (every p (omega arith)) (λ a i d e here closes. let h = r.2.0 a i d e here closes in omega arith) in let c = stored_counts (at k l p) m f.0 f.1 f.4 in let one = at_here k l p f.1 f.2 f.3 in omega arith,
+        let f = finds_whole m s l p (omega arith) every (λ a i d e here closes. let h = r.2.0 a i d e here closes in omega arith) in let c = stored_counts (at k l p) m f.0 f.1 f.4 in let one = at_here k l p f.1 f.2 f.3 in omega arith,
   )

@@ -2,21 +2,18 @@
 use Rattle.std.proofs.Common.{◌≡◌, ◌≢◌, ℕ, suc, ◌+◌, ◌-◌, ◌^◌, ◌<◌, ◌≤◌, max, Bool, true, false, true≢false, if◌then◌else◌, nat_eq, ne_eqb, List, [], ◌∷◌, ◌++◌, length, length-set, get_or, get_or-set_other, set, sum_by, All, sym, refl, ap, ◌∙◌, arith, pow-suc, zero-mul}
 use Rattle.std.proofs.lemmas.List.Sums.{sum_by-set, sum_by_push, sum_by-append}
 use Rattle.std.proofs.lemmas.List.Elements.{All-nil, All-append, All-push}
-use Rattle.std.proofs.lemmas.Nat.Bits.{bit_at_ones}
 use mathlib.Core.Logic.{dite}
 use native.Mathlib.Decide.{ℕ_discrete}
-use Rattle.xs_lane_core.specs.Places.{has, every_place, HasEvery, IsWithin}
+use Rattle.xs_lane_core.specs.Places.{has, every_word, HasEvery, IsWithin}
 use Rattle.xs_lane_core.specs.declared.values.Stand.{Stand}
-use Rattle.xs_lane_core.specs.declared.values.Stand.TheVariants.{Idle, Saw, Holding, Laid, Pulling, Spent}
+use Rattle.xs_lane_core.specs.declared.values.Stand.TheVariants.{Idle, Saw, Holding, Laid, Owing, Pulling, Spent}
 use Rattle.xs_lane_core.specs.Machine.{Placing, Actor, Machine, lane_in, lane_at, actor_at, nobody, acted, repeats, sees, finds_gone, halves, copied, joined}
 use Rattle.xs_lane_core.specs.Steps.{is_free}
-use Rattle.xs_lane_core.specs.Sound.{share, HasShare, StandsAtWhole, SeenBelow, IsSound}
+use Rattle.xs_lane_core.specs.Sound.{IsAlone, share, HasShare, StandsAtWhole, SeenBelow, IsSound}
 use Rattle.xs_lane_core.proofs.Lists.{each_set, each_push}
+use Rattle.xs_lane_core.proofs.Sets.{every_has}
 use Rattle.xs_lane_core.proofs.Shares.{all_finer, finer, half_left, half_right, share_joined, some_part}
-use Rattle.xs_lane_core.proofs.Frames.{free_counts_none, framed, stays_free}
-
-pub every_has : (n : ℕ) → n ≡ every_place → HasEvery n
-every_has n e p lt = ap (λ z. has z p) e ∙ bit_at_ones 64 p lt
+use Rattle.xs_lane_core.proofs.Frames.{free_counts_none, FreshOf, fresh_free, framed, stays_free}
 
 pub nat_eq_is : (a b : ℕ) → nat_eq a b ≡ true → a ≡ b
 nat_eq_is a b e = dite (ℕ_discrete a b) (λ y. y) (λ ne. absurd (true≢false (sym e ∙ ne_eqb a b ne)))
@@ -31,6 +28,7 @@ module _ {V : Type 0} where
   free_has_part a (Saw l) e h = h
   free_has_part a (Holding v) e h = h
   free_has_part a (Laid v) e h = h
+  free_has_part a (Owing l o) e h = h
   free_has_part a (Pulling l j) e h = h
   free_has_part a Spent e h = absurd (true≢false (sym e))
 
@@ -39,10 +37,11 @@ module _ {V : Type 0} where
   part_has_share a b (Saw l) e h = h
   part_has_share a b (Holding v) e h = h
   part_has_share a b (Laid v) e h = h
+  part_has_share a b (Owing l o) e h = h
   part_has_share a b (Pulling l j) e h = h
   part_has_share a b Spent e h = absurd (true≢false (sym e))
 
-  saw_whole : (m : Machine V) (b : Bool) (l : ℕ) → (b ≡ true → HasEvery (lane_at m l).home) → StandsAtWhole m (if b then Saw l else Idle)
+  saw_whole : (m : Machine V) (b : Bool) (l : ℕ) → (b ≡ true → HasEvery (lane_at m l).summary) → StandsAtWhole m (if b then Saw l else Idle)
   saw_whole m true l h = h refl
   saw_whole m false l h = tt
 
@@ -53,11 +52,11 @@ module _ {V : Type 0} (k : Placing V) where
       record { repeated = All-push (λ (y : ℕ × ℕ). has (lane_in m.lanes y.0).taken y.1 ≡ 1) x.repeated (l, p) b.repeated held; seen = b.seen; gone = b.gone }
 
   pub looks_sound : (m : Machine V) (a l : ℕ) → IsSound k m → a < length m.actors → is_free (actor_at m a).stand ≡ true
-      → IsSound k (acted m a (sees (if nat_eq (lane_at m l).home every_place then Saw l else Idle) l (lane_at m l).home (actor_at m a)))
-  looks_sound m a l s lt free = let x : Actor V = actor_at m a in let b = s.seen_below a in let h : ℕ = (lane_at m l).home in let stand : Stand V = if nat_eq h every_place then Saw l else Idle in
-      stays_free k m a (sees stand l h x) s lt free (saw_or_idle V (nat_eq h every_place) l) (free_has_part x x.stand free (s.whole_share.each a)) refl refl refl refl
-      (saw_whole m (nat_eq h every_place) l (λ e. every_has h (nat_eq_is h every_place e)))
-      record { repeated = b.repeated; seen = All-push (λ (y : ℕ × ℕ). IsWithin y.1 (lane_in m.lanes y.0).home) x.seen (l, h) b.seen (λ p. omega arith); gone = b.gone }
+      → IsSound k (acted m a (sees (if nat_eq (lane_at m l).summary every_word then Saw l else Idle) l (lane_at m l).summary (actor_at m a)))
+  looks_sound m a l s lt free = let x : Actor V = actor_at m a in let b = s.seen_below a in let h : ℕ = (lane_at m l).summary in let stand : Stand V = if nat_eq h every_word then Saw l else Idle in
+      stays_free k m a (sees stand l h x) s lt free (saw_or_idle V (nat_eq h every_word) l) (free_has_part x x.stand free (s.whole_share.each a)) refl refl refl refl
+      (saw_whole m (nat_eq h every_word) l (λ e. every_has h (nat_eq_is h every_word e)))
+      record { repeated = b.repeated; seen = All-push (λ (y : ℕ × ℕ). IsWithin y.1 (lane_in m.lanes y.0).summary) x.seen (l, h) b.seen (λ w. omega arith); gone = b.gone }
 
   pub gone_sound : (m : Machine V) (a l : ℕ) → IsSound k m → a < length m.actors → is_free (actor_at m a).stand ≡ true → (lane_at m l).claimed ≡ true → IsSound k (acted m a (finds_gone l (actor_at m a)))
   gone_sound m a l s lt free claimed = let x : Actor V = actor_at m a in let b = s.seen_below a in
@@ -75,6 +74,7 @@ module _ {V : Type 0} (k : Placing V) where
     standing = λ Q idle spent saw h. each_push (λ (y : Actor V). Q y.stand) first (copied x) nobody idle (each_set (λ (y : Actor V). Q y.stand) m.actors a (halves x) nobody (h a) h);
     below = each_push (SeenBelow m.lanes) first (copied x) nobody record { repeated = All-nil _; seen = b.seen; gone = b.gone }
         (each_set (SeenBelow m.lanes) m.actors a (halves x) nobody record { repeated = b.repeated; seen = b.seen; gone = b.gone } s.seen_below);
+    fresh = each_push (λ (y : Actor V). IsAlone y → FreshOf k m.lanes y) first (copied x) nobody (λ _. tt) (each_set (λ (y : Actor V). IsAlone y → FreshOf k m.lanes y) m.actors a (halves x) nobody (λ _. fresh_free k m.lanes x.stored x.stand free) s.summary_follows.fresh);
     share = record {
       scale = suc n;
       fine = each_push (λ (y : Actor V). y.halved ≤ suc n) first (copied x) nobody (let h = w.fine a in omega arith)
@@ -104,10 +104,11 @@ module _ {V : Type 0} (k : Placing V) where
         below = each_set (SeenBelow m.lanes) first b nobody nobody record { repeated = All-nil _; seen = All-nil _; gone = All-nil _ } (each_set (SeenBelow m.lanes) m.actors a z nobody
             record {
               repeated = All-append (λ (q : ℕ × ℕ). has (lane_in m.lanes q.0).taken q.1 ≡ 1) x.repeated y.repeated c.repeated d.repeated;
-              seen = All-append (λ (q : ℕ × ℕ). IsWithin q.1 (lane_in m.lanes q.0).home) x.seen y.seen c.seen d.seen;
+              seen = All-append (λ (q : ℕ × ℕ). IsWithin q.1 (lane_in m.lanes q.0).summary) x.seen y.seen c.seen d.seen;
               gone = All-append (λ (q : ℕ). (lane_in m.lanes q).claimed ≡ true) x.gone y.gone c.gone d.gone;
             }
             s.seen_below);
+        fresh = each_set (λ (q : Actor V). IsAlone q → FreshOf k m.lanes q) first b nobody nobody (λ _. tt) (each_set (λ (q : Actor V). IsAlone q → FreshOf k m.lanes q) m.actors a z nobody (λ _. fresh_free k m.lanes z.stored x.stand free) s.summary_follows.fresh);
         share = record {
           scale = n;
           fine = each_set (λ (q : Actor V). q.halved ≤ n) first b nobody nobody (omega arith) (each_set (λ (q : Actor V). q.halved ≤ n) m.actors a z nobody (let h = w.fine a in let g = w.fine b in omega arith) w.fine);

@@ -11,14 +11,14 @@ use Rattle.xs_lane_core.specs.declared.values.Event.{Event}
 use Rattle.xs_lane_core.specs.declared.values.Event.TheVariants as event
 use Rattle.xs_lane_core.specs.declared.values.Stand.TheVariants.{Pulling}
 use Rattle.xs_lane_core.specs.Machine.{Placing, Actor, Machine, lane_at, actor_at, value_at, nobody, joined}
-use Rattle.xs_lane_core.specs.Steps.{takes, puts, homes, looks, claims, pulls, splits, joins}
+use Rattle.xs_lane_core.specs.Steps.{takes, puts, homes, sums, looks, claims, pulls, splits, joins}
 use Rattle.xs_lane_core.specs.Sound.{lies, PullsUpToClosing, IsOf, NoneClosesBefore, ClosesNotBefore, IsLeastClosing, closes_at, IsSound}
 use Rattle.xs_lane_core.specs.LaneStep.{numbered, lane_step, run}
 use Rattle.xs_lane_core.specs.Claim.{IsStored, GivesFrom, ClaimGives}
 use Rattle.xs_lane_core.proofs.Placed.{is_closing}
-use Rattle.xs_lane_core.proofs.Finds.{finds, finds_least, some_stored, one_value}
+use Rattle.xs_lane_core.proofs.Finds.{finds_whole, finds_least, some_stored, one_value}
 use Rattle.xs_lane_core.proofs.Refusals.{next_lies}
-use Rattle.xs_lane_core.proofs.Cases.{takes_case, puts_case, homes_case, looks_case, claims_case, pulls_case, splits_case, joins_case}
+use Rattle.xs_lane_core.proofs.Cases.{takes_case, puts_case, homes_case, sums_case, looks_case, claims_case, pulls_case, splits_case, joins_case}
 
 none_of_nobody : (V : Type 0) (m : Machine V) (a : ℕ) (v : V) → Contains (actor_at m a).stored v → a < length m.actors
 none_of_nobody V m a v c = dite (dec_le (length m.actors) a) (λ le. let e : length (actor_at m a).stored ≡ 0 = ap (λ (z : Actor V). length z.stored) (past m.actors a nobody le) in let lt = c.1 in absurd (omega arith)) (λ no. omega arith)
@@ -54,6 +54,9 @@ module _ {V : Type 0} (k : Placing V) where
 
   pub home_stores : (m : Machine V) (a : ℕ) (v : V) → IsStored k m v → IsStored k (homes k m a).0 v
   home_stores m a v h = homes_case k (λ r. IsStored k r.0 v) m a h (λ u _ _ _. stored_stays m a _ v (λ c. Contains-append_left (actor_at m a).stored (u ∷ []) v c) h)
+
+  pub sum_stores : (m : Machine V) (a : ℕ) (v : V) → IsStored k m v → IsStored k (sums m a).0 v
+  sum_stores m a v h = sums_case (λ r. IsStored k r.0 v) m a h (λ l o _ _ _. stored_stays m a _ v (λ c. c) h)
 
   pub look_stores : (m : Machine V) (a l : ℕ) (v : V) → IsStored k m v → IsStored k (looks m a l).0 v
   look_stores m a l v h = looks_case (λ r. IsStored k r.0 v) m a l h (λ _ _ _. stored_stays m a _ v (λ c. c) h)
@@ -95,8 +98,8 @@ module _ {V : Type 0} (k : Placing V) where
   none_before_less m l c p le none a i d lt here closes = let h = none a i d lt here closes in omega arith
 
   -- the stored value of a place up to the least closing one
-  found_at : (m : Machine V) → IsSound k m → (l c p : ℕ) → HasEvery (lane_at m l).home → c < places → IsLeastClosing k m l c → p ≤ c → (v : V) × IsStored k m v × (k.lane v ≡ l) × (k.place v ≡ p)
-  found_at m s l c p every lt least le = let r = finds k m s l p (every p (omega arith)) (none_before_less m l c p le least.0) in (r.1, (r.0, r.4), r.2, r.3)
+  found_at : (m : Machine V) → IsSound k m → (l c p : ℕ) → HasEvery (lane_at m l).summary → c < places → IsLeastClosing k m l c → p ≤ c → (v : V) × IsStored k m v × (k.lane v ≡ l) × (k.place v ≡ p)
+  found_at m s l c p every lt least le = let r = finds_whole k m s l p (omega arith) every (none_before_less m l c p le least.0) in (r.1, (r.0, r.4), r.2, r.3)
 
   closing_found : (m : Machine V) → IsSound k m → (l c : ℕ) → IsLeastClosing k m l c → (v : V) → IsStored k m v → k.lane v ≡ l → k.place v ≡ c → k.closes v ≡ true
   closing_found m s l c least v h here there = let r = some_stored k (closes_at k l c) m least.1 in let u : V = r.1 in let g = is_closing k l c u r.2 in
@@ -106,12 +109,12 @@ module _ {V : Type 0} (k : Placing V) where
   with_rest m l p v true closes h here there rest = (v ∷ [], (h, here, there, (λ _. refl), λ open_value. absurd (true≢false (sym closes ∙ open_value))))
   with_rest m l p v false open_value h here there rest = (v ∷ rest.0, (h, here, there, (λ closes. absurd (true≢false (sym closes ∙ open_value))), λ _. rest.1))
 
-  gives_up_to : (m : Machine V) → IsSound k m → (l c : ℕ) → HasEvery (lane_at m l).home → c < places → IsLeastClosing k m l c → (more p : ℕ) → p + more ≡ c → (vs : List V) × GivesFrom k m l p vs
+  gives_up_to : (m : Machine V) → IsSound k m → (l c : ℕ) → HasEvery (lane_at m l).summary → c < places → IsLeastClosing k m l c → (more p : ℕ) → p + more ≡ c → (vs : List V) × GivesFrom k m l p vs
   gives_up_to m s l c every lt least zero p e = let r = found_at m s l c p every lt least (omega arith) in let closes = closing_found m s l c least r.0 r.1 r.2 (r.3 ∙ (let g : p ≡ c = omega arith in g)) in
       (r.0 ∷ [], (r.1, r.2, r.3, (λ _. refl), λ open_value. absurd (true≢false (sym closes ∙ open_value))))
   gives_up_to m s l c every lt least (suc more) p e = let r = found_at m s l c p every lt least (omega arith) in with_rest m l p r.0 (k.closes r.0) refl r.1 r.2 r.3 (gives_up_to m s l c every lt least more (suc p) (omega arith))
 
-  pub gives_some : (m : Machine V) → IsSound k m → (l : ℕ) → HasEvery (lane_at m l).home → (vs : List V) × ClaimGives k m l vs
+  pub gives_some : (m : Machine V) → IsSound k m → (l : ℕ) → HasEvery (lane_at m l).summary → (vs : List V) × ClaimGives k m l vs
   gives_some m s l every = let r = finds_least k m s l every in gives_up_to m s l r.0 every r.1 r.2 r.0 0 (omega arith)
 
 module _ {V : Type 0} (k : Placing V) where
@@ -140,6 +143,7 @@ step_stores : (m : Machine Numbered) (e : Event) (v : Numbered) → IsStored num
 step_stores m (event.Take a u) v = take_stores numbered m a u v
 step_stores m (event.Put a) v = put_stores numbered m a v
 step_stores m (event.Home a) v = home_stores numbered m a v
+step_stores m (event.Sum a) v = sum_stores numbered m a v
 step_stores m (event.Look a l) v = look_stores numbered m a l v
 step_stores m (event.Claim a) v = claim_stores numbered m a v
 step_stores m (event.Pull a) v = pull_stores numbered m a v

@@ -1,12 +1,15 @@
 pub mod Lists
+pub mod Sets
 pub mod Placed
 pub mod Shares
+pub mod Alone
 pub mod Frames
 pub mod Free
 pub mod Turns
 pub mod Taking
 pub mod Laying
 pub mod Homing
+pub mod Summing
 pub mod Claiming
 pub mod Finds
 pub mod Pulling

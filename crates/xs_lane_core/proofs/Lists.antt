@@ -24,7 +24,7 @@ module _ {A : Type 0} where
       (λ e. subst (λ j. P j (get_or (set l i b) j d)) (sym e) (subst (P i) (sym (get_or-set_same l i b d lt)) p))
       (λ ne. subst (P j) (sym (get_or-set_other l i j b d ne)) (all j ne))
 
-  past : (l : List A) (i : ℕ) (d : A) → length l ≤ i → get_or l i d ≡ d
+  pub past : (l : List A) (i : ℕ) (d : A) → length l ≤ i → get_or l i d ≡ d
   past [] i d le = refl
   past (x ∷ xs) zero d le = absurd (omega arith)
   past (x ∷ xs) (suc i) d le = past xs i d (omega arith)

@@ -2,19 +2,19 @@
 use Rattle.std.proofs.Common.{◌≡◌, ℕ, zero, suc, ◌+◌, Bool, true, false, if◌then◌else◌, nat_eq, List, [], ◌∷◌, set, All, refl, subst, arith}
 use Rattle.std.specs.List.{Contains}
 use Rattle.std.proofs.lemmas.List.Elements.{All-nil, All-append, All-push, All-contains}
-use Rattle.xs_lane_core.specs.Places.{every_place, with_places}
+use Rattle.xs_lane_core.specs.Places.{every_word, with_words}
 use Rattle.xs_lane_core.specs.declared.values.Numbered.{Numbered}
 use Rattle.xs_lane_core.specs.declared.values.Event.{Event}
 use Rattle.xs_lane_core.specs.declared.values.Event.TheVariants as event
 use Rattle.xs_lane_core.specs.declared.values.Stand.{Stand}
-use Rattle.xs_lane_core.specs.declared.values.Stand.TheVariants.{Idle, Saw, Holding, Laid, Pulling, Spent}
-use Rattle.xs_lane_core.specs.Machine.{Placing, Actor, Machine, lane_at, actor_at, nobody, start, stands, repeats, stores, sees, finds_gone, gets, halves, copied, joined, mask}
-use Rattle.xs_lane_core.specs.Steps.{takes, puts, homes, looks, claims, pulls, splits, joins}
+use Rattle.xs_lane_core.specs.declared.values.Stand.TheVariants.{Idle, Saw, Holding, Laid, Owing, Pulling, Spent}
+use Rattle.xs_lane_core.specs.Machine.{Placing, Actor, Machine, lane_at, actor_at, nobody, start, stands, repeats, stores, sees, finds_gone, gets, halves, copied, joined, stand_owing}
+use Rattle.xs_lane_core.specs.Steps.{takes, puts, debt_of, homes, sums, looks, claims, pulls, splits, joins}
 use Rattle.xs_lane_core.specs.LaneStep.{numbered, lane_step, run}
 use Rattle.xs_lane_core.specs.Claim.{IsStored}
 use Rattle.xs_lane_core.specs.Offered.{IsOffered}
 use Rattle.xs_lane_core.proofs.Lists.{each_set, each_push}
-use Rattle.xs_lane_core.proofs.Cases.{takes_case, puts_case, homes_case, looks_case, claims_case, pulls_case, splits_case, joins_case}
+use Rattle.xs_lane_core.proofs.Cases.{takes_case, puts_case, homes_case, sums_case, looks_case, claims_case, pulls_case, splits_case, joins_case}
 
 module _ {V : Type 0} (P : V → Type 0) where
   -- P holds of the value that an actor has at hand
@@ -23,6 +23,7 @@ module _ {V : Type 0} (P : V → Type 0) where
   StandHas (Saw l) = Unit {0}
   StandHas (Holding v) = P v
   StandHas (Laid v) = P v
+  StandHas (Owing l o) = Unit {0}
   StandHas (Pulling l j) = Unit {0}
   StandHas Spent = Unit {0}
 
@@ -48,10 +49,19 @@ module _ {V : Type 0} (P : V → Type 0) where
   or_idle true s h = tt
   or_idle false s h = h
 
+  owing_has : (b : Bool) (l o : ℕ) → StandHas (if b then Idle else Owing l o)
+  unfolding StandHas
+  owing_has true l o = tt
+  owing_has false l o = tt
+
   look_has : (m : Machine V) (a l : ℕ) → EachHas m → EachHas (looks m a l).0
   unfolding StandHas
-  look_has m a l h = looks_case (λ r. EachHas r.0) m a l h (λ _ _ _. each_set Has m.actors a (sees (if nat_eq (lane_at m l).home every_place then Saw l else Idle) l (lane_at m l).home (actor_at m a)) nobody
-      record { stand = idle_or (nat_eq (lane_at m l).home every_place) (Saw l) tt; stored = (h a).stored } h)
+  look_has m a l h = looks_case (λ r. EachHas r.0) m a l h (λ _ _ _. each_set Has m.actors a (sees (if nat_eq (lane_at m l).summary every_word then Saw l else Idle) l (lane_at m l).summary (actor_at m a)) nobody
+      record { stand = idle_or (nat_eq (lane_at m l).summary every_word) (Saw l) tt; stored = (h a).stored } h)
+
+  sum_has : (m : Machine V) (a : ℕ) → EachHas m → EachHas (sums m a).0
+  unfolding StandHas
+  sum_has m a h = sums_case (λ r. EachHas r.0) m a h (λ l o _ _ _. each_set Has m.actors a (sees Idle l (with_words (lane_at m l).summary o) (actor_at m a)) nobody record { stand = tt; stored = (h a).stored } h)
 
   claim_has : (m : Machine V) (a : ℕ) → EachHas m → EachHas (claims m a).0
   unfolding StandHas
@@ -81,8 +91,8 @@ module _ {V : Type 0} (k : Placing V) (P : V → Type 0) where
 
   home_has : (m : Machine V) (a : ℕ) → EachHas P m → EachHas P (homes k m a).0
   unfolding StandHas
-  home_has m a h = homes_case k (λ r. EachHas P r.0) m a h (λ v _ _ e. each_set (Has P) m.actors a (stores v (k.lane v) (with_places (lane_at m (k.lane v)).home (mask k v)) (actor_at m a)) nobody
-      record { stand = tt; stored = All-push P (actor_at m a).stored v (h a).stored (subst (StandHas P) e (h a).stand) } h)
+  home_has m a h = homes_case k (λ r. EachHas P r.0) m a h (λ v _ _ e. each_set (Has P) m.actors a (stores v (stand_owing (k.lane v) (debt_of k m v)) (actor_at m a)) nobody
+      record { stand = owing_has P (nat_eq (debt_of k m v) 0) (k.lane v) (debt_of k m v); stored = All-push P (actor_at m a).stored v (h a).stored (subst (StandHas P) e (h a).stand) } h)
 
   pull_has : (m : Machine V) (a : ℕ) → EachHas P m → EachHas P (pulls k m a).0
   unfolding StandHas
@@ -94,6 +104,7 @@ module _ (P : Numbered → Type 0) where
   step_has m (event.Take a v) offers h = take_has numbered P m a v (offers a v refl) h
   step_has m (event.Put a) offers h = put_has numbered P m a h
   step_has m (event.Home a) offers h = home_has numbered P m a h
+  step_has m (event.Sum a) offers h = sum_has P m a h
   step_has m (event.Look a l) offers h = look_has P m a l h
   step_has m (event.Claim a) offers h = claim_has P m a h
   step_has m (event.Pull a) offers h = pull_has numbered P m a h

@@ -1,18 +1,19 @@
 -- The event Take keeps the machine sound where the place is free.
 use Rattle.std.proofs.Common.{◌≡◌, ℕ, ◌+◌, ◌<◌, Bool, true, false, cond, ◌&&◌, eqb, List, ⊎_elim, length, length-set, get_or, sum_by, All, Option, Some, None, unwrap_or, sym, refl, ap, ◌∙◌, arith}
-use Rattle.std.proofs.lemmas.Nat.Bits.{bit_at_or}
 use Rattle.std.proofs.lemmas.List.Sums.{get_or-le-sum_by}
+use Rattle.std.specs.Int.{bit_at}
 use mathlib.Core.Logic.{dite}
 use native.Mathlib.Decide.{ℕ_discrete}
-use Rattle.xs_lane_core.specs.Places.{places, has, only}
+use Rattle.xs_lane_core.specs.Places.{places, word_of, has}
 use Rattle.xs_lane_core.specs.declared.values.Stand.{Stand}
-use Rattle.xs_lane_core.specs.declared.values.Stand.TheVariants.{Idle, Saw, Holding, Laid, Pulling, Spent}
+use Rattle.xs_lane_core.specs.declared.values.Stand.TheVariants.{Idle, Saw, Holding, Laid, Owing, Pulling, Spent}
 use Rattle.xs_lane_core.specs.Machine.{Placing, Lane, Actor, Machine, lane_in, lane_at, actor_at, value_at, no_lane, nobody, changed, with_taken, stands}
 use Rattle.xs_lane_core.specs.Steps.{is_free}
-use Rattle.xs_lane_core.specs.Sound.{over_stands, over_stored, over_got, pulling, holding, laid, at, in_lane, brings, IsOf, StandIsOf, StandsAtWhole, PullsUpToClosing, PullsNext, NoneClosesBefore, ClosesNotBefore, SeenBelow, IsSound, lies}
+use Rattle.xs_lane_core.specs.Sound.{over_stands, over_stored, over_got, pulling, owing, OwesDue, IsSized, IsAlone, IsFreshDebt, holding, laid, at, in_lane, brings, IsOf, StandIsOf, StandsAtWhole, PullsUpToClosing, PullsNext, NoneClosesBefore, ClosesNotBefore, SeenBelow, IsSound, lies}
 use Rattle.xs_lane_core.proofs.Lists.{each_set, each_set_at}
-use Rattle.xs_lane_core.proofs.Placed.{only_here, only_other, at_here, at_other_lane, at_other_place, at_cases}
-use Rattle.xs_lane_core.proofs.Frames.{free_counts_none, counts_holding, counts_laid, counts_pulling, up_to_more, next_more}
+use Rattle.xs_lane_core.proofs.Sets.{joins_here, joins_other}
+use Rattle.xs_lane_core.proofs.Placed.{at_here, at_other_lane, at_other_place, at_cases}
+use Rattle.xs_lane_core.proofs.Frames.{summary_stays, fresh_same, free_counts_none, counts_holding, counts_laid, counts_pulling, counts_owing, up_to_more, next_more}
 use Rattle.xs_lane_core.proofs.Free.{free_has_part}
 use Rattle.xs_lane_core.proofs.Turns.{part_same, stand_sum, stored_same, got_same, stand_within, stored_within, got_within, share_turns, Gains, below_more, whole_more, order_stays}
 
@@ -55,21 +56,22 @@ module _ {V : Type 0} (k : Placing V) where
   stand_is value v (Saw l) none none' h = tt
   stand_is value v (Holding u) none none' h = other_is value u v none h
   stand_is value v (Laid u) none none' h = other_is value u v none' h
+  stand_is value v (Owing l o) none none' h = tt
   stand_is value v (Pulling l j) none none' h = tt
   stand_is value v Spent none none' h = tt
 
   pub takes_sound : (m : Machine V) (a : ℕ) (v : V) → IsSound k m → a < length m.actors → k.lane v < length m.lanes → k.place v < places → is_free (actor_at m a).stand ≡ true → has (lane_at m (k.lane v)).taken (k.place v) ≡ 0
       → IsSound k (changed m (k.lane v) (with_taken (lane_at m (k.lane v)) (k.place v)) a (stands (Holding v) (actor_at m a)))
   takes_sound m a v s lt lt' low free empty = let l : ℕ = k.lane v in let p : ℕ = k.place v in let x : Actor V = actor_at m a in let q : Actor V = stands (Holding v) x in let y : Lane V = with_taken (lane_at m l) p in
-      let n : Machine V = changed m l y a q in let value : ℕ → ℕ → Option V = with_one s.value v in let none = s.one_holder.once l p in let few = s.map_follows.got_stored l p in
+      let n : Machine V = changed m l y a q in let value : ℕ → ℕ → Option V = with_one s.value v in let wide = s.map_follows.wide l lt' in let room : word_of p < length (lane_at m l).taken = let t = wide.taken in omega arith in let none = s.one_holder.once l p in let few = s.map_follows.got_stored l p in
       let taken : (j r : ℕ) → has (lane_in n.lanes j).taken r ≡ has (lane_at m j).taken r + at k j r v = each_set_at (λ j z. (r : ℕ) → has z.taken r ≡ has (lane_at m j).taken r + at k j r v) m.lanes l y no_lane lt'
-      (λ r. let o = bit_at_or (lane_at m l).taken (only p) r in dite (ℕ_discrete r p)
-      (λ e. let h : has (only p) r ≡ 1 = ap (has (only p)) e ∙ only_here p in let g = at_here k l r v refl (sym e) in let z : has (lane_at m l).taken r ≡ 0 = ap (has (lane_at m l).taken) e ∙ empty in omega arith)
-      (λ ne. let h = only_other p r ne in let g = at_other_place k l r v (λ e. ne (sym e)) in omega arith))
+      (λ r. dite (ℕ_discrete r p)
+      (λ e. let h : has y.taken r ≡ 1 = ap (has y.taken) e ∙ joins_here (lane_at m l).taken p room in let g = at_here k l r v refl (sym e) in let z : has (lane_at m l).taken r ≡ 0 = ap (has (lane_at m l).taken) e ∙ empty in omega arith)
+      (λ ne. let h : has y.taken r ≡ has (lane_at m l).taken r = joins_other (lane_at m l).taken p r room ne in let g = at_other_place k l r v (λ e. ne (sym e)) in omega arith))
       (λ j ne r. let g = at_other_lane k j r v (λ e. ne (sym e)) in omega arith) in
-      let home = part_same (λ (z : Lane V). z.home) m.lanes l y lt' refl in let claimed = part_same (λ (z : Lane V). z.claimed) m.lanes l y lt' refl in let values = part_same (λ (z : Lane V). z.values) m.lanes l y lt' refl in
+      let home = part_same (λ (z : Lane V). z.home) m.lanes l y lt' refl in let summary = part_same (λ (z : Lane V). z.summary) m.lanes l y lt' refl in let claimed = part_same (λ (z : Lane V). z.claimed) m.lanes l y lt' refl in let values = part_same (λ (z : Lane V). z.values) m.lanes l y lt' refl in
       let lying : (j r : ℕ) → value_at n j r ≡ value_at m j r = λ j r. ap (λ (z : List (Option V)). get_or z r None) (values j) in
-      let gains : Gains m.lanes n.lanes = record { taken = λ j r. let t = taken j r in omega arith; home = λ j r. let t = ap (λ z. has z r) (home j) in omega arith; claimed = λ j e. claimed j ∙ e } in
+      let gains : Gains m.lanes n.lanes = record { taken = λ j r. let t = taken j r in omega arith; summary = λ j w. let t = ap (λ z. bit_at z w) (summary j) in omega arith; claimed = λ j e. claimed j ∙ e } in
       let hold : (j r : ℕ) → over_stands (holding k j r) n ≡ over_stands (holding k j r) m + at k j r v = λ j r. let e = stand_sum (holding k j r) m a q lt in let f = free_counts_none (holding k j r) (counts_holding k j r) x.stand free in omega arith in
       let lay : (j r : ℕ) → over_stands (laid k j r) n ≡ over_stands (laid k j r) m = λ j r. let e = stand_sum (laid k j r) m a q lt in let f = free_counts_none (laid k j r) (counts_laid k j r) x.stand free in omega arith in
       let pull : (j : ℕ) → over_stands (pulling j) n ≡ over_stands (pulling j) m = λ j. let e = stand_sum (pulling j) m a q lt in let f = free_counts_none (pulling j) (counts_pulling k j) x.stand free in omega arith in
@@ -88,7 +90,7 @@ module _ {V : Type 0} (k : Placing V) where
               each_set (λ (z : Actor V). All (IsOf k value) z.stored) m.actors a q nobody (all a) all;
         };
         map_follows = record {
-          wide = each_set_at (λ j z. j < length n.lanes → length z.values ≡ places) m.lanes l y no_lane lt' (λ h. s.map_follows.wide l lt') (λ j ne h. s.map_follows.wide j (let g = length-set m.lanes l y in omega arith));
+          wide = each_set_at (λ j z. j < length n.lanes → IsSized z) m.lanes l y no_lane lt' (λ h. record { taken = length-set (lane_at m l).taken (word_of p) _ ∙ wide.taken; home = wide.home; small = wide.small; values = wide.values }) (λ j ne h. s.map_follows.wide j (let g = length-set m.lanes l y in omega arith));
           lying = λ j r u e. let old : value_at m j r ≡ Some u = sym (lying j r) ∙ e in ⊎_elim
               (λ (h : (k.lane v ≡ j) × (k.place v ≡ r) × (at k j r v ≡ 1)). let there : value_at m l p ≡ Some u = (λ i. value_at m (h.0 i) (h.1 i)) ∙ old in
               let f = s.map_follows.filled l p in let c : lies (value_at m l p) ≡ 1 = ap lies there in absurd (omega arith))
@@ -99,6 +101,9 @@ module _ {V : Type 0} (k : Placing V) where
               each_set (λ (z : Actor V). All (IsOf k value) z.got) m.actors a q nobody (all a) all;
         };
         home_follows = λ j r. let t = stored (brings k j r) in let o = s.home_follows j r in let h = ap (λ z. has z r) (home j) in omega arith;
+        summary_follows = summary_stays k m n s.summary_follows (sym (length-set m.lanes l y)) home summary stored (λ j w. let e = stand_sum (owing j w) m a q lt in let f = free_counts_none (owing j w) (counts_owing k j w) x.stand free in omega arith)
+            (λ more. each_set (λ (z : Actor V). OwesDue k n z.stand) m.actors a q nobody tt (λ b. more (actor_at m b).stand (s.summary_follows.debts b)))
+            (each_set (λ (z : Actor V). IsAlone z → IsFreshDebt k n.lanes z.stored z.stand) m.actors a q nobody (λ _. tt) (λ b alone. fresh_same k m.lanes n.lanes (actor_at m b).stored (actor_at m b).stand summary (s.summary_follows.fresh b alone)));
         claimers = record {
           whole = each_set (λ (z : Actor V). StandsAtWhole n z.stand) m.actors a q nobody tt (λ b. whole_more m n gains (actor_at m b).stand (s.claimers.whole b));
           one = λ j. let d = pull j in let o = s.claimers.one j in let c : cond {A = ℕ} (lane_at n j).claimed 1 0 ≡ cond {A = ℕ} (lane_at m j).claimed 1 0 = ap (λ (b : Bool). cond {A = ℕ} b 1 0) (claimed j) in omega arith;

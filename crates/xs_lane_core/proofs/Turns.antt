@@ -1,11 +1,12 @@
 -- What is counted, and what holds of each actor, where one actor and one lane change.
-use Rattle.std.proofs.Common.{◌≡◌, ℕ, ◌+◌, ◌-◌, ◌*◌, ◌^◌, ◌<◌, ◌≤◌, true, cond, ltb, List, length, set, sum_by, All, sym, refl, ap, ◌∙◌, subst, arith}
+use Rattle.std.proofs.Common.{◌≡◌, ℕ, ◌+◌, ◌-◌, ◌*◌, ◌^◌, ◌<◌, ◌≤◌, true, cond, ltb, get_or, List, length, set, sum_by, All, sym, refl, ap, ◌∙◌, subst, arith}
+use Rattle.std.specs.Int.{bit_at}
 use Rattle.std.proofs.lemmas.Nat.Bits.{bit_at-lt}
 use Rattle.std.proofs.lemmas.List.Sums.{sum_by-set}
 use Rattle.std.proofs.lemmas.List.Elements.{All-weaker}
-use Rattle.xs_lane_core.specs.Places.{has, HasEvery, IsWithin}
+use Rattle.xs_lane_core.specs.Places.{word_of, place_bit, has, HasEvery, IsWithin}
 use Rattle.xs_lane_core.specs.declared.values.Stand.{Stand}
-use Rattle.xs_lane_core.specs.declared.values.Stand.TheVariants.{Idle, Saw, Holding, Laid, Pulling, Spent}
+use Rattle.xs_lane_core.specs.declared.values.Stand.TheVariants.{Idle, Saw, Holding, Laid, Owing, Pulling, Spent}
 use Rattle.xs_lane_core.specs.Machine.{Placing, Lane, Actor, Machine, lane_in, lane_at, actor_at, no_lane, nobody}
 use Rattle.xs_lane_core.specs.Sound.{over_stands, over_stored, over_got, pulling, closes_at, at, in_lane, drawn, share, StandsAtWhole, PullsUpToClosing, PullsNext, NoneClosesBefore, ClosesNotBefore, HasShare, SeenBelow, WholeShare, GotInOrder}
 use Rattle.xs_lane_core.proofs.Lists.{each_set, each_set_at, within_sum}
@@ -55,28 +56,29 @@ module _ {V : Type 0} where
     each = each_set (λ (x : Actor V). HasShare x x.stand) m.actors a q nobody has_share w.each;
   }
 
-  -- lanes only gain: taken places, places that are home, claims
+  -- lanes only gain: taken places, words of the summary, claims
   pub record Gains (old new : List (Lane V)) : Type 0 where
     pub taken : (l p : ℕ) → has (lane_in old l).taken p ≤ has (lane_in new l).taken p
-    pub home : (l p : ℕ) → has (lane_in old l).home p ≤ has (lane_in new l).home p
+    pub summary : (l w : ℕ) → bit_at (lane_in old l).summary w ≤ bit_at (lane_in new l).summary w
     pub claimed : (l : ℕ) → (lane_in old l).claimed ≡ true → (lane_in new l).claimed ≡ true
 
   pub below_more : (old new : List (Lane V)) (a : Actor V) → Gains old new → SeenBelow old a → SeenBelow new a
   below_more old new a g b = record {
     repeated = All-weaker (λ (x : ℕ × ℕ). has (lane_in old x.0).taken x.1 ≡ 1) (λ (x : ℕ × ℕ). has (lane_in new x.0).taken x.1 ≡ 1)
-        (λ x h. let t = g.taken x.0 x.1 in let u = bit_at-lt (lane_in new x.0).taken x.1 in omega arith) a.repeated b.repeated;
-    seen = All-weaker (λ (x : ℕ × ℕ). IsWithin x.1 (lane_in old x.0).home) (λ (x : ℕ × ℕ). IsWithin x.1 (lane_in new x.0).home) (λ x h p. let t = g.home x.0 p in let u = h p in omega arith) a.seen b.seen;
+        (λ x h. let t = g.taken x.0 x.1 in let u = bit_at-lt (get_or (lane_in new x.0).taken (word_of x.1) 0) (place_bit x.1) in omega arith) a.repeated b.repeated;
+    seen = All-weaker (λ (x : ℕ × ℕ). IsWithin x.1 (lane_in old x.0).summary) (λ (x : ℕ × ℕ). IsWithin x.1 (lane_in new x.0).summary) (λ x h w. let t = g.summary x.0 w in let u = h w in omega arith) a.seen b.seen;
     gone = All-weaker (λ (l : ℕ). (lane_in old l).claimed ≡ true) (λ (l : ℕ). (lane_in new l).claimed ≡ true) g.claimed a.gone b.gone;
   }
 
-  every_more : (old new : List (Lane V)) (l : ℕ) → Gains old new → HasEvery (lane_in old l).home → HasEvery (lane_in new l).home
-  every_more old new l g h p lt = let t = g.home l p in let u = h p lt in let w = bit_at-lt (lane_in new l).home p in omega arith
+  every_more : (old new : List (Lane V)) (l : ℕ) → Gains old new → HasEvery (lane_in old l).summary → HasEvery (lane_in new l).summary
+  every_more old new l g h w lt = let t = g.summary l w in let u = h w lt in let b = bit_at-lt (lane_in new l).summary w in omega arith
 
   pub whole_more : (m n : Machine V) → Gains m.lanes n.lanes → (s : Stand V) → StandsAtWhole m s → StandsAtWhole n s
   whole_more m n g Idle h = tt
   whole_more m n g (Saw l) h = every_more m.lanes n.lanes l g h
   whole_more m n g (Holding v) h = tt
   whole_more m n g (Laid v) h = tt
+  whole_more m n g (Owing l o) h = tt
   whole_more m n g (Pulling l j) h = every_more m.lanes n.lanes l g h
   whole_more m n g Spent h = tt
 
@@ -87,6 +89,7 @@ module _ {V : Type 0} (k : Placing V) where
   up_to_stays m n more (Saw l) e h = tt
   up_to_stays m n more (Holding v) e h = tt
   up_to_stays m n more (Laid v) e h = tt
+  up_to_stays m n more (Owing l o) e h = tt
   up_to_stays m n more (Pulling l j) e h = more l j (omega arith) h
   up_to_stays m n more Spent e h = tt
 

@@ -7,9 +7,9 @@ use Rattle.xs_lane_core.specs.declared.values.Event.TheVariants as event
 use Rattle.xs_lane_core.specs.declared.values.Outcome.{Outcome}
 use Rattle.xs_lane_core.specs.declared.values.Outcome.TheVariants as outcome
 use Rattle.xs_lane_core.specs.declared.values.Stand.{Stand}
-use Rattle.xs_lane_core.specs.declared.values.Stand.TheVariants.{Idle, Saw, Holding, Laid, Pulling, Spent}
+use Rattle.xs_lane_core.specs.declared.values.Stand.TheVariants.{Idle, Saw, Holding, Laid, Owing, Pulling, Spent}
 use Rattle.xs_lane_core.specs.Machine.{Placing, Machine, actor_at}
-use Rattle.xs_lane_core.specs.Steps.{Answer, Taken, Back, Lies, Stored, Made, Seen, Claimed, Gone, Pulled, Split, Joined, Refused, is_free, takes, puts, homes, looks, claims, pulls, splits, joins}
+use Rattle.xs_lane_core.specs.Steps.{Answer, Taken, Back, Lies, Owes, Stored, Made, Seen, Claimed, Gone, Pulled, Split, Joined, Refused, is_free, takes, puts, homes, sums, looks, claims, pulls, splits, joins}
 
 abbrev pub numbered : Placing Numbered
 numbered = record { lane = λ v. v.lane; place = λ v. v.place; closes = λ v. v.closes }
@@ -18,6 +18,7 @@ abbrev pub outcome_of : Answer Numbered → Outcome
 outcome_of Taken = outcome.Taken
 outcome_of (Back v) = outcome.Back v
 outcome_of Lies = outcome.Laid
+outcome_of Owes = outcome.Owing
 outcome_of Stored = outcome.Stored
 outcome_of Made = outcome.Made
 outcome_of (Seen mask) = outcome.Seen mask
@@ -36,6 +37,7 @@ abbrev pub lane_step : Machine Numbered → Event → Machine Numbered × Outcom
 lane_step m (event.Take a v) = told (takes numbered m a v)
 lane_step m (event.Put a) = told (puts numbered m a)
 lane_step m (event.Home a) = told (homes numbered m a)
+lane_step m (event.Sum a) = told (sums m a)
 lane_step m (event.Look a l) = told (looks m a l)
 lane_step m (event.Claim a) = told (claims m a)
 lane_step m (event.Pull a) = told (pulls numbered m a)
@@ -58,6 +60,7 @@ is_holding Idle = false
 is_holding (Saw l) = false
 is_holding (Laid v) = false
 is_holding (Pulling l j) = false
+is_holding (Owing l o) = false
 is_holding Spent = false
 
 abbrev pub has_laid : Stand Numbered → Bool
@@ -66,7 +69,17 @@ has_laid Idle = false
 has_laid (Saw l) = false
 has_laid (Holding v) = false
 has_laid (Pulling l j) = false
+has_laid (Owing l o) = false
 has_laid Spent = false
+
+abbrev pub is_owing : Stand Numbered → Bool
+is_owing (Owing l o) = true
+is_owing Idle = false
+is_owing (Saw l) = false
+is_owing (Holding v) = false
+is_owing (Laid v) = false
+is_owing (Pulling l j) = false
+is_owing Spent = false
 
 abbrev pub has_seen : Stand Numbered → Bool
 has_seen (Saw l) = true
@@ -74,6 +87,7 @@ has_seen Idle = false
 has_seen (Holding v) = false
 has_seen (Laid v) = false
 has_seen (Pulling l j) = false
+has_seen (Owing l o) = false
 has_seen Spent = false
 
 abbrev pub is_pulling : Stand Numbered → Bool
@@ -82,6 +96,7 @@ is_pulling Idle = false
 is_pulling (Saw l) = false
 is_pulling (Holding v) = false
 is_pulling (Laid v) = false
+is_pulling (Owing l o) = false
 is_pulling Spent = false
 
 -- the actors, the lane and the place that the event names are there, and the actors stand as it needs
@@ -89,6 +104,7 @@ abbrev pub allows : Machine Numbered → Event → Bool
 allows m (event.Take a v) = nat_lt a (length m.actors) && nat_lt v.lane (length m.lanes) && nat_lt v.place places && is_free (actor_at m a).stand
 allows m (event.Put a) = nat_lt a (length m.actors) && is_holding (actor_at m a).stand
 allows m (event.Home a) = nat_lt a (length m.actors) && has_laid (actor_at m a).stand
+allows m (event.Sum a) = nat_lt a (length m.actors) && is_owing (actor_at m a).stand
 allows m (event.Look a l) = nat_lt a (length m.actors) && nat_lt l (length m.lanes) && is_free (actor_at m a).stand
 allows m (event.Claim a) = nat_lt a (length m.actors) && has_seen (actor_at m a).stand
 allows m (event.Pull a) = nat_lt a (length m.actors) && is_pulling (actor_at m a).stand

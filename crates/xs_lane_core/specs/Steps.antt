@@ -1,14 +1,15 @@
 -- What each event does to the machine, and what it answers ("The lane machine" in docs/DESIGN.md).
-use Rattle.std.specs.Prelude.{ℕ, ◌+◌, Bool, true, false, not, ◌&&◌, if◌then◌else◌, nat_eq, nat_lt, [], ◌∷◌, ◌++◌, length, slice_set, Option, Some, None}
-use Rattle.xs_lane_core.specs.Places.{places, has, every_place, with_places}
+use Rattle.std.specs.Prelude.{ℕ, ◌+◌, Bool, true, false, not, ◌&&◌, if◌then◌else◌, nat_eq, nat_lt, bit_or, [], ◌∷◌, ◌++◌, length, slice_index, slice_set, Option, Some, None}
+use Rattle.xs_lane_core.specs.Places.{places, word_of, has, every_word, with_words}
 use Rattle.xs_lane_core.specs.declared.values.Stand.{Stand}
-use Rattle.xs_lane_core.specs.declared.values.Stand.TheVariants.{Idle, Saw, Holding, Laid, Pulling, Spent}
-use Rattle.xs_lane_core.specs.Machine.{Placing, Machine, lane_at, actor_at, value_at, acted, changed, with_taken, with_home, with_claim, with_value, stands, repeats, stores, sees, finds_gone, gets, halves, copied, joined, nobody, mask}
+use Rattle.xs_lane_core.specs.declared.values.Stand.TheVariants.{Idle, Saw, Holding, Laid, Owing, Pulling, Spent}
+use Rattle.xs_lane_core.specs.Machine.{Placing, Machine, lane_at, actor_at, value_at, acted, changed, with_taken, with_home, with_summary, with_claim, with_value, stands, repeats, stores, sees, finds_gone, gets, halves, copied, joined, nobody, owed, stand_owing, mask}
 
 pub data Answer (V : Type 0) : Type 0 where
   Taken : Answer V
   Back : V → Answer V
   Lies : Answer V
+  Owes : Answer V
   Stored : Answer V
   Made : Answer V
   Seen : ℕ → Answer V
@@ -29,12 +30,13 @@ module _ {V : Type 0} where
   is_free (Saw l) = true
   is_free (Holding v) = false
   is_free (Laid v) = false
+  is_free (Owing l o) = false
   is_free (Pulling l j) = false
   is_free Spent = false
 
-  -- what a value that is home made of its lane
-  abbrev pub home_answer : ℕ → ℕ → Answer V
-  home_answer before after = if not (nat_eq before every_place) && nat_eq after every_place then Made else Stored
+  -- what the words that join a summary make of its lane
+  abbrev pub sum_answer : ℕ → ℕ → Answer V
+  sum_answer before after = if not (nat_eq before every_word) && nat_eq after every_word then Made else Stored
 
 module _ {V : Type 0} (k : Placing V) where
   -- Take: the value's place, where nobody has taken it; else the value is back
@@ -55,20 +57,28 @@ module _ {V : Type 0} (k : Placing V) where
   puts_here m a (Saw l) = (m, Refused)
   puts_here m a (Laid v) = (m, Refused)
   puts_here m a (Pulling l j) = (m, Refused)
+  puts_here m a (Owing l o) = (m, Refused)
   puts_here m a Spent = (m, Refused)
 
   abbrev pub puts : Machine V → ℕ → Machine V × Answer V
   puts m a = allowed m (nat_lt a (length m.actors)) (puts_here m a (actor_at m a).stand)
 
-  -- Home: the places that the value brings are home
+  -- the words that a value that comes home owes to the summary
+  abbrev pub debt_of : Machine V → V → ℕ
+  debt_of m v = let before = slice_index (lane_at m (k.lane v)).home (word_of (k.place v)) in owed (k.closes v) (word_of (k.place v)) before (bit_or before (mask k v))
+
+  -- the value is stored, and the places that it brings are home
+  abbrev pub homed : Machine V → ℕ → V → Machine V
+  homed m a v = changed m (k.lane v) (with_home (lane_at m (k.lane v)) (word_of (k.place v)) (mask k v)) a (stores v (stand_owing (k.lane v) (debt_of m v)) (actor_at m a))
+
+  -- Home: the value is stored, and what it fills is owed to the summary
   abbrev pub homes_here : Machine V → ℕ → Stand V → Machine V × Answer V
-  homes_here m a (Laid v) = allowed m (nat_lt (k.lane v) (length m.lanes)) (allowed m (nat_lt (k.place v) places) (
-      let x = lane_at m (k.lane v) in let home = with_places x.home (mask k v) in
-      (changed m (k.lane v) (with_home x home) a (stores v (k.lane v) home (actor_at m a)), home_answer x.home home)))
+  homes_here m a (Laid v) = allowed m (nat_lt (k.lane v) (length m.lanes)) (allowed m (nat_lt (k.place v) places) (homed m a v, if nat_eq (debt_of m v) 0 then Stored else Owes))
   homes_here m a Idle = (m, Refused)
   homes_here m a (Saw l) = (m, Refused)
   homes_here m a (Holding v) = (m, Refused)
   homes_here m a (Pulling l j) = (m, Refused)
+  homes_here m a (Owing l o) = (m, Refused)
   homes_here m a Spent = (m, Refused)
 
   abbrev pub homes : Machine V → ℕ → Machine V × Answer V
@@ -85,16 +95,32 @@ module _ {V : Type 0} (k : Placing V) where
   pulls_here m a (Saw l) = (m, Refused)
   pulls_here m a (Holding v) = (m, Refused)
   pulls_here m a (Laid v) = (m, Refused)
+  pulls_here m a (Owing l o) = (m, Refused)
   pulls_here m a Spent = (m, Refused)
 
   abbrev pub pulls : Machine V → ℕ → Machine V × Answer V
   pulls m a = allowed m (nat_lt a (length m.actors)) (pulls_here m a (actor_at m a).stand)
 
 module _ {V : Type 0} where
-  -- Look: the places of the lane that are home
+  -- Sum: the words that are owed join the summary
+  abbrev pub sums_here : Machine V → ℕ → Stand V → Machine V × Answer V
+  sums_here m a (Owing l o) = allowed m (nat_lt l (length m.lanes)) (
+      let x = lane_at m l in let summary = with_words x.summary o in
+      (changed m l (with_summary x o) a (sees Idle l summary (actor_at m a)), sum_answer x.summary summary))
+  sums_here m a Idle = (m, Refused)
+  sums_here m a (Saw l) = (m, Refused)
+  sums_here m a (Holding v) = (m, Refused)
+  sums_here m a (Laid v) = (m, Refused)
+  sums_here m a (Pulling l j) = (m, Refused)
+  sums_here m a Spent = (m, Refused)
+
+  abbrev pub sums : Machine V → ℕ → Machine V × Answer V
+  sums m a = allowed m (nat_lt a (length m.actors)) (sums_here m a (actor_at m a).stand)
+
+  -- Look: the summary of the lane
   abbrev pub looks : Machine V → ℕ → ℕ → Machine V × Answer V
   looks m a l = allowed m (nat_lt a (length m.actors)) (allowed m (nat_lt l (length m.lanes)) (allowed m (is_free (actor_at m a).stand) (
-      let home = (lane_at m l).home in (acted m a (sees (if nat_eq home every_place then Saw l else Idle) l home (actor_at m a)), Seen home))))
+      let summary = (lane_at m l).summary in (acted m a (sees (if nat_eq summary every_word then Saw l else Idle) l summary (actor_at m a)), Seen summary))))
 
   -- Claim: the lane, where nobody has claimed it; else it is gone
   abbrev pub claims_here : Machine V → ℕ → Stand V → Machine V × Answer V
@@ -106,6 +132,7 @@ module _ {V : Type 0} where
   claims_here m a (Holding v) = (m, Refused)
   claims_here m a (Laid v) = (m, Refused)
   claims_here m a (Pulling l j) = (m, Refused)
+  claims_here m a (Owing l o) = (m, Refused)
   claims_here m a Spent = (m, Refused)
 
   abbrev pub claims : Machine V → ℕ → Machine V × Answer V

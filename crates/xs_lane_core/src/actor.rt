@@ -4,6 +4,7 @@ ghost use Rattle.xs_lane_core.specs.declared.values.Numbered.{Numbered};
 ghost use Rattle.xs_lane_core.specs.Machine.{Actor, newcomer, nobody, stands, repeats, stores, sees, finds_gone, gets, halves, copied, joined};
 ghost use Rattle.xs_lane_core.specs.Steps.{is_free};
 
+use crate::growing::{copy_of, keep};
 use crate::share::Share;
 use crate::values::{Numbered, Stand};
 use std::alloc::Global;
@@ -31,7 +32,7 @@ impl Model for ActorState {
 fn both<T: Copy + Drop>(alloc: Global, first: &[T], second: &[T]) -> Result<Vec<T>, Memory>
     ensures { IfOk result (λ v. v.items ≡ first.now ++ second.now) }
 {
-    let mut list = Vec::from_slice(alloc, first).map_err(|_| Memory)?;
+    let mut list = copy_of(alloc, first)?;
     list.extend_from_slice(second).map_err(|_| Memory)?;
     Ok(list)
 }
@@ -77,8 +78,8 @@ impl ActorState {
     {
         match self.stand {
             Stand::Idle | Stand::Saw { .. } => true,
-            Stand::Holding { .. } | Stand::Laid { .. } | Stand::Pulling { .. } | Stand::Spent =>
-                false,
+            Stand::Holding { .. } | Stand::Laid { .. } | Stand::Owing { .. } => false,
+            Stand::Pulling { .. } | Stand::Spent => false,
         }
     }
 
@@ -92,30 +93,25 @@ impl ActorState {
         ensures ok { OnOk result (self.new ≡ repeats lane place self.old) }
         ensures err { OnErr result (self.new ≡ self.old) }
     {
-        self.repeated.reserve(1).map_err(|_| Memory)?;
-        self.repeated.push_reserved((lane, place));
+        keep(&mut self.repeated, (lane, place))?;
         self.stand = Stand::Idle;
         Ok(())
     }
 
-    pub fn store(&mut self, value: Numbered, lane: u32, home: u64) -> Result<(), Memory>
-        ensures ok { OnOk result (self.new ≡ stores value lane home self.old) }
+    pub fn store(&mut self, value: Numbered, stand: Stand<Numbered>) -> Result<(), Memory>
+        ensures ok { OnOk result (self.new ≡ stores value stand self.old) }
         ensures err { OnErr result (self.new ≡ self.old) }
     {
-        self.stored.reserve(1).map_err(|_| Memory)?;
-        self.seen.reserve(1).map_err(|_| Memory)?;
-        self.stored.push_reserved(value);
-        self.seen.push_reserved((lane, home));
-        self.stand = Stand::Idle;
+        keep(&mut self.stored, value)?;
+        self.stand = stand;
         Ok(())
     }
 
-    pub fn see(&mut self, stand: Stand<Numbered>, lane: u32, home: u64) -> Result<(), Memory>
-        ensures ok { OnOk result (self.new ≡ sees stand lane home self.old) }
+    pub fn see(&mut self, stand: Stand<Numbered>, lane: u32, summary: u64) -> Result<(), Memory>
+        ensures ok { OnOk result (self.new ≡ sees stand lane summary self.old) }
         ensures err { OnErr result (self.new ≡ self.old) }
     {
-        self.seen.reserve(1).map_err(|_| Memory)?;
-        self.seen.push_reserved((lane, home));
+        keep(&mut self.seen, (lane, summary))?;
         self.stand = stand;
         Ok(())
     }
@@ -124,8 +120,7 @@ impl ActorState {
         ensures ok { OnOk result (self.new ≡ finds_gone lane self.old) }
         ensures err { OnErr result (self.new ≡ self.old) }
     {
-        self.gone.reserve(1).map_err(|_| Memory)?;
-        self.gone.push_reserved(lane);
+        keep(&mut self.gone, lane)?;
         self.stand = Stand::Idle;
         Ok(())
     }
@@ -134,8 +129,7 @@ impl ActorState {
         ensures ok { OnOk result (self.new ≡ gets value stand self.old) }
         ensures err { OnErr result (self.new ≡ self.old) }
     {
-        self.got.reserve(1).map_err(|_| Memory)?;
-        self.got.push_reserved(value);
+        keep(&mut self.got, value)?;
         self.stand = stand;
         Ok(())
     }
@@ -146,8 +140,8 @@ impl ActorState {
         ensures ok { OnOk result (self.new ≡ halves self.old) }
         ensures err { OnErr result (self.new ≡ self.old) }
     {
-        let gone = Vec::from_slice(alloc, self.gone.as_slice()).map_err(|_| Memory)?;
-        let seen = Vec::from_slice(alloc, self.seen.as_slice()).map_err(|_| Memory)?;
+        let gone = copy_of(alloc, self.gone.as_slice())?;
+        let seen = copy_of(alloc, self.seen.as_slice())?;
         let share = self.share.split(alloc)?;
         Ok(ActorState {
             stand: Stand::Idle,

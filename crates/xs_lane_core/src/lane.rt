@@ -1,62 +1,98 @@
 // One lane, and what each event changes in it.
-ghost use Rattle.std.specs.Prelude.{◌≡◌, ◌<◌, None, nat_eq, not, slice_index_or};
-ghost use Rattle.xs_lane_core.specs.Places.{has, only, onward, with_places, places};
+ghost use Rattle.std.specs.Prelude.{◌≡◌, ◌<◌, None, ◌&&◌, nat_eq, not, slice_index, slice_index_or};
+ghost use Rattle.xs_lane_core.specs.Places.{has, own_bit, places, set_words, word_of, words_above, every_word};
 ghost use Rattle.xs_lane_core.specs.declared.values.Numbered.{Numbered};
-ghost use Rattle.xs_lane_core.specs.Machine.{Lane, empty_lane, with_taken, with_home, with_claim, with_value, mask};
-ghost use Rattle.xs_lane_core.specs.LaneStep.{numbered};
+ghost use Rattle.xs_lane_core.specs.Machine.{Lane, empty_lane, with_taken, with_home, with_summary, with_claim, with_value, owed, home_bits};
 
 use crate::values::Numbered;
 use std::marker::Model;
 
-pub const PLACES: u32 = 64;
+/// How many places a lane has.
+pub const PLACES: usize = 512;
 
-const LAST_PLACE: u32 = 63;
+/// The summary of a lane that is whole: each of its words is full, or past the place that closes it.
+pub const EVERY_WORD: u64 = 255;
 
-// The word in which each place of a lane has its bit.
-pub type Places = u64;
+// The places of a lane in words of 64.
+const WORDS: usize = 8;
 
-pub const EVERY_PLACE: Places = u64::MAX;
+const LAST_PLACE: u32 = 511;
+
+const FULL: u64 = u64::MAX;
 
 #[derive(Drop)]
 pub struct LaneState {
-    taken: Places,
-    home: Places,
+    taken: [u64; WORDS],
+    home: [u64; WORDS],
+    summary: u64,
     claimed: bool,
-    values: [Option<Numbered>; 64],
+    values: [Option<Numbered>; PLACES],
 }
 
 impl Model for LaneState {
     ghost Value = { Lane Numbered };
 
-    ghost view = { λ s. record { taken = s.taken; home = s.home; claimed = s.claimed; values = s.values } };
+    ghost view = { λ s. record { taken = s.taken; home = s.home; summary = s.summary; claimed = s.claimed; values = s.values } };
 }
 
-fn only_place(place: u32) -> Places
+/// The bit of a place in its word.
+pub fn own_bit(place: u32) -> u64
     requires { place < places }
-    ensures { result ≡ only place }
+    ensures { result ≡ own_bit place }
 {
-    1 << place
+    1 << (place % 64)
 }
 
-fn onward_from(place: u32) -> Places
+/// The word of a place.
+pub fn word_of(place: u32) -> u32
     requires { place < places }
-    ensures { result ≡ onward place }
+    ensures word { result ≡ word_of place }
+    ensures low { result < set_words }
 {
-    EVERY_PLACE << place
+    place / 64
 }
 
-// The places that a value brings home.
-pub fn mask_of(value: Numbered) -> Places
-    requires { value.place < places }
-    ensures { result ≡ mask numbered value }
+// The words above this one.
+fn words_above(word: u32) -> u64
+    requires { word < set_words }
+    ensures { result ≡ words_above word }
 {
-    if value.closes {
-        onward_from(value.place)
-    } else if value.place == LAST_PLACE {
+    256 - (1 << (word + 1))
+}
+
+/// The places that a value brings home in its word.
+pub fn home_bits(closes: bool, place: u32) -> u64
+    requires { place < places }
+    ensures { result ≡ home_bits closes place }
+{
+    if closes {
+        FULL << (place % 64)
+    } else if place == LAST_PLACE {
         0
     } else {
-        only_place(value.place)
+        own_bit(place)
     }
+}
+
+/// The words that are owed to the summary where a value comes home in this word.
+pub fn owed(closes: bool, word: u32, before: u64, after: u64) -> u64
+    requires { word < set_words }
+    ensures { result ≡ owed closes word before after }
+{
+    let above = if closes { words_above(word) } else { 0 };
+    let own = if before != FULL && after == FULL {
+        1 << word
+    } else {
+        0
+    };
+    above | own
+}
+
+/// Whether these words join the last ones that a summary wants.
+pub fn makes_whole(before: u64, after: u64) -> bool
+    ensures { result ≡ (not (nat_eq before every_word) && nat_eq after every_word) }
+{
+    before != EVERY_WORD && after == EVERY_WORD
 }
 
 impl LaneState {
@@ -64,10 +100,11 @@ impl LaneState {
         ensures { result ≡ empty_lane }
     {
         LaneState {
-            taken: 0,
-            home: 0,
+            taken: [0; WORDS],
+            home: [0; WORDS],
+            summary: 0,
             claimed: false,
-            values: [None; 64],
+            values: [None; PLACES],
         }
     }
 
@@ -75,26 +112,40 @@ impl LaneState {
         requires { place < places }
         ensures { result ≡ not (nat_eq (has self.now.taken place) 0) }
     {
-        self.taken & only_place(place) != 0
+        self.taken[word_of(place) as usize] & own_bit(place) != 0
     }
 
     pub fn take(&mut self, place: u32)
         requires { place < places }
         ensures { self.new ≡ with_taken self.old place }
     {
-        self.taken |= only_place(place);
+        self.taken[word_of(place) as usize] |= own_bit(place);
     }
 
-    pub fn home(&self) -> Places
-        ensures { result ≡ self.now.home }
+    pub fn home(&self, word: u32) -> u64
+        requires { word < set_words }
+        ensures { result ≡ slice_index self.now.home word }
     {
-        self.home
+        self.home[word as usize]
     }
 
-    pub fn bring(&mut self, home: Places)
-        ensures { self.new ≡ with_home self.old home }
+    pub fn bring(&mut self, word: u32, more: u64)
+        requires { word < set_words }
+        ensures { self.new ≡ with_home self.old word more }
     {
-        self.home = home;
+        self.home[word as usize] |= more;
+    }
+
+    pub fn summary(&self) -> u64
+        ensures { result ≡ self.now.summary }
+    {
+        self.summary
+    }
+
+    pub fn sum(&mut self, more: u64)
+        ensures { self.new ≡ with_summary self.old more }
+    {
+        self.summary |= more;
     }
 
     pub fn is_claimed(&self) -> bool

@@ -1,24 +1,26 @@
 //! What holds of the lane machine, as functions that do nothing: each contract is a law.
 ghost use Rattle.std.specs.Prelude.{◌≡◌, ◌<◌, ◌≤◌, ◌↔◌, ◌⊎◌, ℕ, false, List, Some, slice_get};
+ghost use Rattle.std.specs.Int.{bit_at};
 ghost use Rattle.std.specs.List.{Contains};
-ghost use Rattle.xs_lane_core.specs.Places.{places, has, HasEvery};
+ghost use Rattle.xs_lane_core.specs.Places.{places, has, set_words, HasEvery};
 ghost use Rattle.xs_lane_core.specs.declared.values.Numbered.{Numbered};
 ghost use Rattle.xs_lane_core.specs.declared.values.Event.{Event};
 ghost use Rattle.xs_lane_core.specs.declared.values.Outcome.TheVariants.{Refused};
 ghost use Rattle.xs_lane_core.specs.declared.values.Stand.TheVariants.{Laid, Pulling};
 ghost use Rattle.xs_lane_core.specs.Machine.{Placing, Machine, start, lane_at, actor_at, value_at};
-ghost use Rattle.xs_lane_core.specs.Steps.{takes, puts, homes, looks, claims, pulls, splits, joins};
+ghost use Rattle.xs_lane_core.specs.Steps.{takes, puts, homes, sums, looks, claims, pulls, splits, joins};
 ghost use Rattle.xs_lane_core.specs.Sound.{IsSound, IsLeastClosing, over_stored, over_got, at};
 ghost use Rattle.xs_lane_core.specs.LaneStep.{numbered, lane_step, run, answers, allows};
-ghost use Rattle.xs_lane_core.specs.Claim.{IsStored, ClaimGives, ComesHome};
+ghost use Rattle.xs_lane_core.specs.Claim.{IsStored, ClaimGives, ComesHome, IsFilled, IsSummed};
 ghost use Rattle.xs_lane_core.specs.Offered.{IsOffered};
 ghost use Rattle.xs_lane_core.specs.Stories.{one_place, one_place_answers, closing_first, closing_first_answers};
 
-/// Each of the eight events keeps the machine sound, whatever its values are.
+/// Each of the nine events keeps the machine sound, whatever its values are.
 pub fn each_event_keeps_sound<V>()
     ensures take { (k : Placing V) (m : Machine V) (a : ℕ) (v : V) → IsSound k m → IsSound k (takes k m a v).0 }
     ensures put { (k : Placing V) (m : Machine V) (a : ℕ) → IsSound k m → IsSound k (puts k m a).0 }
     ensures home { (k : Placing V) (m : Machine V) (a : ℕ) → IsSound k m → IsSound k (homes k m a).0 }
+    ensures sum { (k : Placing V) (m : Machine V) (a : ℕ) → IsSound k m → IsSound k (sums m a).0 }
     ensures look { (k : Placing V) (m : Machine V) (a l : ℕ) → IsSound k m → IsSound k (looks m a l).0 }
     ensures claim { (k : Placing V) (m : Machine V) (a : ℕ) → IsSound k m → IsSound k (claims m a).0 }
     ensures pull { (k : Placing V) (m : Machine V) (a : ℕ) → IsSound k m → IsSound k (pulls k m a).0 }
@@ -47,20 +49,28 @@ pub fn only_offered_values_are_stored()
     ensures { (lanes : ℕ) (events : List Event) (v : Numbered) → IsStored numbered (run (start lanes) events) v → IsOffered events v }
 {}
 
-/// A place is home exactly where it is stored and not the last one, or a stored value closes its lane at it or before.
+/// A place is home exactly where it is stored and not the last one, or a stored value closes its lane at it or before it
+/// in the same word.
 pub fn home_is_what_is_stored<V>()
     ensures { (k : Placing V) (m : Machine V) (l p : ℕ) → IsSound k m → p < places → (has (lane_at m l).home p ≡ 1) ↔ ComesHome k m l p }
 {}
 
-/// Where all places of a lane are home, it has a least closing place, and all places up to it are stored.
+/// A summary has only words that are full, or past the word of a stored closing value; and each such word is there or is
+/// owed.
+pub fn summary_is_what_is_full<V>()
+    ensures only { (k : Placing V) (m : Machine V) (l w : ℕ) → IsSound k m → bit_at (lane_at m l).summary w ≡ 1 → IsFilled k m l w }
+    ensures each { (k : Placing V) (m : Machine V) (l w : ℕ) → IsSound k m → w < set_words → IsFilled k m l w → IsSummed k m l w }
+{}
+
+/// Where the summary of a lane has all words, it has a least closing place, and all places up to it are stored.
 pub fn whole_lane_is_stored<V>()
-    ensures { (k : Placing V) (m : Machine V) (l : ℕ) → IsSound k m → HasEvery (lane_at m l).home
+    ensures { (k : Placing V) (m : Machine V) (l : ℕ) → IsSound k m → HasEvery (lane_at m l).summary
         → (c : ℕ) × (c < places) × IsLeastClosing k m l c × ((p : ℕ) → p ≤ c → 0 < over_stored (at k l p) m) }
 {}
 
 /// A claim of a lane that is whole gives one list of values.
 pub fn claim_gives_one_list<V>()
-    ensures some { (k : Placing V) (m : Machine V) (l : ℕ) → IsSound k m → HasEvery (lane_at m l).home → (vs : List V) × ClaimGives k m l vs }
+    ensures some { (k : Placing V) (m : Machine V) (l : ℕ) → IsSound k m → HasEvery (lane_at m l).summary → (vs : List V) × ClaimGives k m l vs }
     ensures one { (k : Placing V) (m : Machine V) (l : ℕ) (vs ws : List V) → IsSound k m → ClaimGives k m l vs → ClaimGives k m l ws → vs ≡ ws }
     ensures pulled { (k : Placing V) (m : Machine V) (a l j : ℕ) (vs : List V) → IsSound k m → ClaimGives k m l vs → (actor_at m a).stand ≡ Pulling l j
         → (v : V) × (value_at m l j ≡ Some v) × (slice_get vs j ≡ Some v) }
@@ -87,7 +97,7 @@ pub fn two_actors_at_one_place()
     ensures { answers (start 2) one_place ≡ one_place_answers }
 {}
 
-/// A closing value at place 1 of an empty lane brings all places but the first home.
+/// A closing value at place 1 of an empty lane brings all words but the first into the summary.
 pub fn closing_value_comes_first()
     ensures { answers (start 1) closing_first ≡ closing_first_answers }
 {}

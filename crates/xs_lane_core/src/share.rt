@@ -3,6 +3,7 @@ ghost use Rattle.std.specs.Prelude.{◌≡◌, ◌+◌, ◌*◌, ◌^◌, ◌++�
 ghost use Rattle.xs_lane_core.specs.Share.{Portion, portion, parts_of};
 ghost use Rattle.xs_lane_core.specs.Machine.{joined_parts};
 
+use crate::growing::{copy_of, keep};
 use std::alloc::Global;
 use std::marker::Model;
 use xs_io::Memory;
@@ -26,19 +27,13 @@ fn raised(power: u64, by: u64) -> Result<u64, Memory>
     power.checked_add(by).ok_or(Memory)
 }
 
-fn add(into: &mut Vec<u64>, power: u64) -> Result<(), Memory>
-    ensures { OnOk result (into.new.items ≡ into.old.items ++ power ∷ []) }
-{
-    into.push(power).map_err(|_| Memory)
-}
-
 // Adds the powers, each `by` higher.
 fn add_raised(into: &mut Vec<u64>, powers: &[u64], by: u64) -> Result<(), Memory>
     ensures sum { OnOk result (parts_of into.new.items ≡ parts_of into.old.items + parts_of powers.now * 2 ^ by) }
 {
     'adding: for power in powers {
         let higher = raised(*power, by)?;
-        add(into, higher)?;
+        keep(into, higher)?;
     }
     Ok(())
 }
@@ -48,7 +43,7 @@ impl Share {
         ensures { IfOk result (λ s. s ≡ portion 1 0) }
     {
         let mut powers = Vec::new(alloc);
-        powers.push(0).map_err(|_| Memory)?;
+        keep(&mut powers, 0)?;
         Ok(Share { powers, halved: 0 })
     }
 
@@ -68,7 +63,7 @@ impl Share {
         ensures err { OnErr result (self.new ≡ self.old) }
     {
         let halved = self.halved.checked_add(1).ok_or(Memory)?;
-        let powers = Vec::from_slice(alloc, self.powers.as_slice()).map_err(|_| Memory)?;
+        let powers = copy_of(alloc, self.powers.as_slice())?;
         self.halved = halved;
         Ok(Share { powers, halved })
     }

@@ -1,15 +1,16 @@
 // The machine's lanes and actors, and each event as steps of code. What is kept true of them stands one file up.
 ghost use Rattle.std.specs.Prelude.{◌≡◌, ◌+◌, ◌<◌, length, nat_eq, if◌then◌else◌, IfOk, OnOk, OnErr};
-ghost use Rattle.xs_lane_core.specs.Places.{places, every_place};
+ghost use Rattle.xs_lane_core.specs.Places.{places, set_words, every_word};
 ghost use Rattle.xs_lane_core.specs.declared.values.Numbered.{Numbered};
-ghost use Rattle.xs_lane_core.specs.Machine.{Machine, start, lane_at, actor_at, acted, with_taken, with_home, with_claim, with_value, stands, repeats, stores, sees, finds_gone, gets};
-ghost use Rattle.xs_lane_core.specs.Steps.{home_answer, takes, puts, homes, looks, claims, pulls, splits, joins};
+ghost use Rattle.xs_lane_core.specs.Machine.{Machine, start, lane_at, actor_at, acted, with_taken, with_home, with_summary, with_claim, with_value, stands, repeats, stores, sees, finds_gone, gets, stand_owing};
+ghost use Rattle.xs_lane_core.specs.Steps.{sum_answer, takes, puts, homes, sums, looks, claims, pulls, splits, joins};
 ghost use Rattle.xs_lane_core.specs.LaneStep.{numbered, outcome_of, told, lane_step};
 ghost use Rattle.xs_lane_core.specs.declared.values.Stand.TheVariants.{Idle, Saw, Pulling};
 ghost use Rattle.xs_lane_core.specs.Kept.{with_lane};
 
 use crate::actor::ActorState;
-use crate::lane::{EVERY_PLACE, LaneState, PLACES, Places, mask_of};
+use crate::growing::keep;
+use crate::lane::{EVERY_WORD, LaneState, PLACES, home_bits, makes_whole, owed, word_of};
 use crate::values::{Event, Numbered, Outcome, Stand};
 use std::alloc::Global;
 use std::marker::Model;
@@ -33,25 +34,35 @@ fn empty_lanes(alloc: Global, count: u32) -> Result<Vec<LaneState>, Memory>
 {
     let mut lanes = Vec::new(alloc);
     'making: for _ in 0..count {
-        lanes.push(LaneState::empty()).map_err(|_| Memory)?;
+        keep(&mut lanes, LaneState::empty())?;
     }
     Ok(lanes)
 }
 
-fn home_outcome(before: Places, after: Places) -> Outcome
-    ensures { result ≡ outcome_of (home_answer before after) }
+fn sum_outcome(before: u64, after: u64) -> Outcome
+    ensures { result ≡ outcome_of (sum_answer before after) }
 {
-    if before != EVERY_PLACE && after == EVERY_PLACE {
+    if makes_whole(before, after) {
         Outcome::Made
     } else {
         Outcome::Stored
     }
 }
 
-fn stand_after_look(lane: u32, home: Places) -> Stand<Numbered>
-    ensures { result ≡ (if nat_eq home every_place then Saw lane else Idle) }
+fn stand_after_home(lane: u32, words: u64) -> Stand<Numbered>
+    ensures { result ≡ stand_owing lane words }
 {
-    if home == EVERY_PLACE {
+    if words == 0 {
+        Stand::Idle
+    } else {
+        Stand::Owing { lane, words }
+    }
+}
+
+fn stand_after_look(lane: u32, summary: u64) -> Stand<Numbered>
+    ensures { result ≡ (if nat_eq summary every_word then Saw lane else Idle) }
+{
+    if summary == EVERY_WORD {
         Stand::Saw { lane }
     } else {
         Stand::Idle
@@ -78,7 +89,7 @@ impl State {
     {
         let lanes = empty_lanes(alloc, lanes)?;
         let mut actors = Vec::new(alloc);
-        actors.push(ActorState::first(alloc)?).map_err(|_| Memory)?;
+        keep(&mut actors, ActorState::first(alloc)?)?;
         Ok(State {
             alloc,
             lanes,
@@ -107,11 +118,18 @@ impl State {
         self.lanes[lane].take(place);
     }
 
-    fn bring(&mut self, lane: usize, home: Places)
-        requires { lane < length self.old.lanes }
-        ensures { self.new ≡ with_lane self.old lane (with_home (lane_at self.old lane) home) }
+    fn bring(&mut self, lane: usize, word: u32, more: u64)
+        requires { (lane < length self.old.lanes) × (word < set_words) }
+        ensures { self.new ≡ with_lane self.old lane (with_home (lane_at self.old lane) word more) }
     {
-        self.lanes[lane].bring(home);
+        self.lanes[lane].bring(word, more);
+    }
+
+    fn sum_up(&mut self, lane: usize, more: u64)
+        requires { lane < length self.old.lanes }
+        ensures { self.new ≡ with_lane self.old lane (with_summary (lane_at self.old lane) more) }
+    {
+        self.lanes[lane].sum(more);
     }
 
     fn claim_lane(&mut self, lane: usize)
@@ -143,12 +161,12 @@ impl State {
         self.actors[actor].repeat(lane, place)
     }
 
-    fn store(&mut self, actor: usize, value: Numbered, home: Places) -> Result<(), Memory>
+    fn store(&mut self, actor: usize, value: Numbered, stand: Stand<Numbered>) -> Result<(), Memory>
         requires { actor < length self.old.actors }
-        ensures ok { OnOk result (self.new ≡ acted self.old actor (stores value value.lane home (actor_at self.old actor))) }
+        ensures ok { OnOk result (self.new ≡ acted self.old actor (stores value stand (actor_at self.old actor))) }
         ensures err { OnErr result (self.new ≡ self.old) }
     {
-        self.actors[actor].store(value, value.lane, home)
+        self.actors[actor].store(value, stand)
     }
 
     fn see(
@@ -156,13 +174,13 @@ impl State {
         actor: usize,
         stand: Stand<Numbered>,
         lane: u32,
-        home: Places,
+        summary: u64,
     ) -> Result<(), Memory>
         requires { actor < length self.old.actors }
-        ensures ok { OnOk result (self.new ≡ acted self.old actor (sees stand lane home (actor_at self.old actor))) }
+        ensures ok { OnOk result (self.new ≡ acted self.old actor (sees stand lane summary (actor_at self.old actor))) }
         ensures err { OnErr result (self.new ≡ self.old) }
     {
-        self.actors[actor].see(stand, lane, home)
+        self.actors[actor].see(stand, lane, summary)
     }
 
     fn find_gone(&mut self, actor: usize, lane: u32) -> Result<(), Memory>
@@ -188,7 +206,7 @@ impl State {
         let lane = value.lane as usize;
         if actor >= self.actors.len()
             || lane >= self.lanes.len()
-            || value.place >= PLACES
+            || value.place as usize >= PLACES
             || !self.actor(actor).is_free()
         {
             return Ok(Outcome::Refused);
@@ -212,7 +230,7 @@ impl State {
             return Outcome::Refused;
         };
         let lane = value.lane as usize;
-        if lane >= self.lanes.len() || value.place >= PLACES {
+        if lane >= self.lanes.len() || value.place as usize >= PLACES {
             return Outcome::Refused;
         }
         self.set_value(lane, value.place, Some(value));
@@ -231,14 +249,41 @@ impl State {
             return Ok(Outcome::Refused);
         };
         let lane = value.lane as usize;
-        if lane >= self.lanes.len() || value.place >= PLACES {
+        if lane >= self.lanes.len() || value.place as usize >= PLACES {
             return Ok(Outcome::Refused);
         }
-        let before = self.lane(lane).home();
-        let home = before | mask_of(value);
-        self.store(actor, value, home)?;
-        self.bring(lane, home);
-        Ok(home_outcome(before, home))
+        let word = word_of(value.place);
+        let more = home_bits(value.closes, value.place);
+        let before = self.lane(lane).home(word);
+        let words = owed(value.closes, word, before, before | more);
+        self.store(actor, value, stand_after_home(value.lane, words))?;
+        self.bring(lane, word, more);
+        Ok(if words == 0 {
+            Outcome::Stored
+        } else {
+            Outcome::Owing
+        })
+    }
+
+    pub fn sum(&mut self, actor: usize) -> Result<Outcome, Memory>
+        ensures step { IfOk result (λ o. (self.new, o) ≡ told (sums self.old actor)) }
+        ensures err { OnErr result (self.new ≡ self.old) }
+    {
+        if actor >= self.actors.len() {
+            return Ok(Outcome::Refused);
+        }
+        let Stand::Owing { lane, words } = self.actor(actor).stand() else {
+            return Ok(Outcome::Refused);
+        };
+        let at = lane as usize;
+        if at >= self.lanes.len() {
+            return Ok(Outcome::Refused);
+        }
+        let before = self.lane(at).summary();
+        let summary = before | words;
+        self.see(actor, Stand::Idle, lane, summary)?;
+        self.sum_up(at, words);
+        Ok(sum_outcome(before, summary))
     }
 
     pub fn look(&mut self, actor: usize, lane: u32) -> Result<Outcome, Memory>
@@ -249,9 +294,9 @@ impl State {
         if actor >= self.actors.len() || at >= self.lanes.len() || !self.actor(actor).is_free() {
             return Ok(Outcome::Refused);
         }
-        let home = self.lane(at).home();
-        self.see(actor, stand_after_look(lane, home), lane, home)?;
-        Ok(Outcome::Seen { mask: home })
+        let summary = self.lane(at).summary();
+        self.see(actor, stand_after_look(lane, summary), lane, summary)?;
+        Ok(Outcome::Seen { mask: summary })
     }
 
     pub fn claim(&mut self, actor: usize) -> Result<Outcome, Memory>
@@ -288,7 +333,7 @@ impl State {
             return Ok(Outcome::Refused);
         };
         let at = lane as usize;
-        if at >= self.lanes.len() || place >= PLACES {
+        if at >= self.lanes.len() || place as usize >= PLACES {
             return Ok(Outcome::Refused);
         }
         let Some(value) = self.lane(at).value(place) else {
@@ -342,6 +387,7 @@ impl State {
             Event::Take { actor, value } => self.take(actor as usize, value),
             Event::Put { actor } => Ok(self.put(actor as usize)),
             Event::Home { actor } => self.home(actor as usize),
+            Event::Sum { actor } => self.sum(actor as usize),
             Event::Look { actor, lane } => self.look(actor as usize, lane),
             Event::Claim { actor } => self.claim(actor as usize),
             Event::Pull { actor } => self.pull(actor as usize),

@@ -1,9 +1,9 @@
 /// A value of the machine. `closes` says that no value of its lane stands behind it.
-#[derive(Clone, Copy, Debug, PartialEq, Eq)]
+#[derive(Clone, Copy, PartialEq, Eq)]
 pub struct Numbered {
     /// The lane that the value belongs to.
     pub lane: u32,
-    /// Its place in the lane, below 64.
+    /// Its place in the lane, below `PLACES`.
     pub place: u32,
     /// Whether the lane ends at this place.
     pub closes: bool,
@@ -12,11 +12,12 @@ pub struct Numbered {
 }
 
 /// What an actor does next. Actors are numbered from 0 in the order in which they were made.
-#[derive(Clone, Copy, Debug, PartialEq, Eq)]
+#[derive(Clone, Copy)]
 pub enum Event {
     Take { actor: u64, value: Numbered },
     Put { actor: u64 },
     Home { actor: u64 },
+    Sum { actor: u64 },
     Look { actor: u64, lane: u32 },
     Claim { actor: u64 },
     Pull { actor: u64 },
@@ -25,7 +26,7 @@ pub enum Event {
 }
 
 /// What the machine answers to an event.
-#[derive(Clone, Copy, Debug, PartialEq, Eq)]
+#[derive(Clone, Copy, PartialEq, Eq)]
 pub enum Outcome {
     /// The place was free and is now the actor's.
     Taken,
@@ -33,11 +34,13 @@ pub enum Outcome {
     Back { value: Numbered },
     /// The value lies at its place.
     Laid,
-    /// The value is home.
+    /// The value is home, and what it fills is owed to the lane's summary.
+    Owing,
+    /// The value is home, and nothing is owed.
     Stored,
-    /// The value is home, and its lane is whole by it.
+    /// The lane is whole by the words that were owed.
     Made,
-    /// The places of the lane that are home, one bit each.
+    /// The words of the lane that its summary has, one bit each.
     Seen { mask: u64 },
     /// The actor has claimed the lane.
     Claimed,
@@ -63,6 +66,8 @@ pub enum Stand<V> {
     Holding { value: V },
     /// It has put the value at its place.
     Laid { value: V },
+    /// It has stored a value, and owes these words to the lane's summary.
+    Owing { lane: u32, words: u64 },
     /// It has claimed the lane, and pulls the value of this place next.
     Pulling { lane: u32, place: u32 },
     /// It was joined into another.

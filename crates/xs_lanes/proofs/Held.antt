@@ -2,13 +2,14 @@
 use Rattle.std.proofs.Common.{◌≡◌, ℕ, ◌<◌, cond, ◌&&◌, eqb, List, ⊎_elim, length, get_or, sum_by, All, Option, Some, sym, refl, ap, ◌∙◌, subst, arith}
 use Rattle.std.proofs.lemmas.List.Sums.{get_or-le-sum_by}
 use Rattle.std.proofs.lemmas.Nat.Bits.{bit_at-lt}
+use Rattle.xs_lane_core.specs.Places.{word_of, place_bit}
 use Rattle.xs_lane_core.specs.declared.values.Stand.{Stand}
-use Rattle.xs_lane_core.specs.declared.values.Stand.TheVariants.{Idle, Saw, Holding, Laid, Pulling, Spent}
+use Rattle.xs_lane_core.specs.declared.values.Stand.TheVariants.{Idle, Saw, Holding, Laid, Owing, Pulling, Spent}
 use Rattle.xs_lane_core.specs.Machine.{Placing, Actor, Machine, lane_at, actor_at, value_at, nobody, acted, stands}
-use Rattle.xs_lane_core.specs.Sound.{over_stands, over_stored, over_got, pulling, holding, laid, at, in_lane, brings, IsOf, StandIsOf, StandsAtWhole, PullsUpToClosing, PullsNext, NoneClosesBefore, ClosesNotBefore, HasShare, SeenBelow, IsSound, lies}
+use Rattle.xs_lane_core.specs.Sound.{over_stands, over_stored, over_got, pulling, owing, IsAlone, IsFreshDebt, OwesDue, holding, laid, at, in_lane, brings, IsOf, StandIsOf, StandsAtWhole, PullsUpToClosing, PullsNext, NoneClosesBefore, ClosesNotBefore, HasShare, SeenBelow, IsSound, lies}
 use Rattle.xs_lane_core.proofs.Lists.{each_set, each_set_at, two_within}
 use Rattle.xs_lane_core.proofs.Placed.{at_here, at_cases}
-use Rattle.xs_lane_core.proofs.Frames.{up_to_more, next_more}
+use Rattle.xs_lane_core.proofs.Frames.{summary_stays, up_to_more, next_more}
 use Rattle.xs_lane_core.proofs.Taking.{first_of_two, second_of_two, some_same}
 use Rattle.xs_lane_core.proofs.Turns.{stand_from, stored_same, got_same, stand_within, stored_within, got_within, share_turns, order_stays}
 
@@ -40,6 +41,7 @@ module _ {V : Type 0} (k : Placing V) where
   stand_is value v (Saw l) none none' h = tt
   stand_is value v (Holding u) none none' h = other_is value u v none h
   stand_is value v (Laid u) none none' h = other_is value u v none' h
+  stand_is value v (Owing l o) none none' h = tt
   stand_is value v (Pulling l j) none none' h = tt
   stand_is value v Spent none none' h = tt
 
@@ -48,7 +50,7 @@ module _ {V : Type 0} (k : Placing V) where
       let value : ℕ → ℕ → Option V = instead s.value v in
       let alike : (j r : ℕ) → at k j r v ≡ at k j r u = λ j r i. cond {A = ℕ} (eqb (same_lane i) j && eqb (same_place i) r) 1 0 in
       let mine : holding k l p x.stand ≡ 1 = ap (holding k l p) stand ∙ at_here k l p u (sym same_lane) (sym same_place) in
-      let total = stand_within (holding k l p) m a refl in let once = s.one_holder.once l p in let bit = bit_at-lt (lane_at m l).taken p in let few = s.map_follows.got_stored l p in
+      let total = stand_within (holding k l p) m a refl in let once = s.one_holder.once l p in let bit = bit_at-lt (get_or (lane_at m l).taken (word_of p) 0) (place_bit p) in let few = s.map_follows.got_stored l p in
       let hold : (j r : ℕ) → over_stands (holding k j r) n ≡ over_stands (holding k j r) m = λ j r. let e = stand_from (holding k j r) m a q (Holding u) lt stand in let c = alike j r in omega arith in
       let lay : (j r : ℕ) → over_stands (laid k j r) n ≡ over_stands (laid k j r) m = λ j r. let e = stand_from (laid k j r) m a q (Holding u) lt stand in omega arith in
       let pull : (j : ℕ) → over_stands (pulling j) n ≡ over_stands (pulling j) m = λ j. let e = stand_from (pulling j) m a q (Holding u) lt stand in omega arith in
@@ -81,6 +83,9 @@ module _ {V : Type 0} (k : Placing V) where
               each_set (λ (z : Actor V). All (IsOf k value) z.got) m.actors a q nobody (all a) all;
         };
         home_follows = λ j r. let t = stored (brings k j r) in let o = s.home_follows j r in omega arith;
+        summary_follows = summary_stays k m n s.summary_follows refl (λ j. refl) (λ j. refl) stored (λ j w. let e = stand_from (owing j w) m a q (Holding u) lt stand in omega arith)
+            (λ more. each_set (λ (z : Actor V). OwesDue k n z.stand) m.actors a q nobody tt (λ b. more (actor_at m b).stand (s.summary_follows.debts b)))
+            (each_set (λ (z : Actor V). IsAlone z → IsFreshDebt k m.lanes z.stored z.stand) m.actors a q nobody (λ _. tt) s.summary_follows.fresh);
         claimers = record {
           whole = each_set (λ (z : Actor V). StandsAtWhole m z.stand) m.actors a q nobody tt s.claimers.whole;
           one = λ j. let d = pull j in let o = s.claimers.one j in omega arith;

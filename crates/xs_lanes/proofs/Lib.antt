@@ -6,12 +6,15 @@ pub mod Steps
 pub mod Takes
 pub mod Events
 pub mod Homes
+pub mod Summed
 pub mod Shares
 pub mod Tells
 pub mod Exactly
 pub mod Claims
 pub mod Draws
 pub mod Runs
+pub mod Wholes
 pub mod Ends
 pub mod Named
+pub mod Gathering
 pub mod ClaimsExactly

@@ -1,17 +1,18 @@
 -- The table at the start, and the steps that cut a pass in two and make one of two.
-use Rattle.std.proofs.Common.{◌≡◌, ◌≢◌, ℕ, zero, suc, ◌*◌, ◌<◌, true, true≢false, List, [], ◌∷◌, ◌++◌, length, map, replicate, get_or, get_or-set_other, set, length-set, sum_by, Option, Some, None, is_some, sym, refl, ap, ◌∙◌, subst, arith}
+use Rattle.std.proofs.Common.{◌≡◌, ◌≢◌, ℕ, zero, suc, ◌+◌, ◌*◌, ◌<◌, true, true≢false, List, [], ◌∷◌, ◌++◌, length, map, replicate, get_or, get_or-set_other, set, length-set, sum_by, Option, Some, None, is_some, sym, refl, ap, ◌∙◌, subst, arith}
 use Rattle.std.proofs.lemmas.List.{length-replicate, length-map}
 use Rattle.std.proofs.lemmas.List.Sums.{sum_by-set, sum_by_push, sum_by-append}
 use mathlib.Core.Option.{some}
 use lib.ListN.{get_elem?}
 use Rattle.atomic_table.specs.Table.{Splits, Joins, opening}
 use Rattle.atomic_table.proofs.Lists.{set_else}
+use Rattle.xs_lane_core.specs.Places.{set_words}
 use Rattle.xs_lane_core.specs.Machine.{Placing, Lane, Actor, Machine, lane_at, actor_at, empty_lane, no_lane, newcomer, nobody, start, halves, copied, joined}
 use Rattle.xs_lane_core.specs.Steps.{is_free}
 use Rattle.xs_lane_core.specs.Sound.{drawn, in_lane}
 use Rattle.xs_lane_core.proofs.Free.{splits_sound, joins_sound}
 use Rattle.xs_lane_core.proofs.Keeps.{start_sound}
-use Rattle.xs_lanes.specs.Filing.{lane_word, word_at, slot_at, Filed}
+use Rattle.xs_lanes.specs.Filing.{lane_word, summary_word, claim_word, drawn_word, slot_at, ShowsLane, Filed}
 use Rattle.xs_lanes.proofs.Lists.{at_view}
 use Rattle.xs_lanes.proofs.Shown.{shows_acted}
 
@@ -65,24 +66,24 @@ module _ {T : Type 0} (k : Placing T) where
       subst (λ (z : Actor T). Filed k record { words = s.words; homes = s.homes; views = set (set s.views id (joined z w)) other nobody }) mine
       (subst (λ (z : Actor T). Filed k record { words = s.words; homes = s.homes; views = set (set s.views id (joined x z)) other nobody }) theirs whole)
 
-  pub opens : (n w c : ℕ) → w ≡ 4 * n → c ≡ 64 * n → Filed k (opening (replicate w 0) (replicate c None) newcomer)
+  pub opens : (n w c : ℕ) → w ≡ 19 * n → c ≡ 512 * n → Filed k (opening (replicate w 0) (replicate c None) newcomer)
   opens n w c e e' = let m : Machine T = start n in let long : length m.lanes ≡ n = length-replicate n (empty_lane {V = T}) in
       let empty : (l : ℕ) → l < n → lane_at m l ≡ empty_lane = λ l lt. replicate_at n l (empty_lane {V = T}) no_lane lt in record {
         lanes = replicate n empty_lane;
         shows = record {
-          count = length-replicate w 0 ∙ (e ∙ ap (λ i. 4 * i) (sym long));
-          word = λ l i lt low. replicate_at w (word_at l i) 0 0 (omega arith) ∙ (zero_word i ∙ ap (λ (x : Lane T). lane_word x 0 i) (sym (empty l (omega arith))));
+          count = length-replicate w 0 ∙ (e ∙ ap (λ i. 19 * i) (sym long));
+          lane = λ l lt. subst (λ (x : Lane T). ShowsLane (replicate w 0) l x 0) (sym (empty l (omega arith))) record {
+            taken = λ c low. replicate_at w (lane_word l c) 0 0 (omega arith) ∙ sym (replicate_at set_words c 0 0 low);
+            home = λ c low. replicate_at w (lane_word l (8 + c)) 0 0 (omega arith) ∙ sym (replicate_at set_words c 0 0 low);
+            summary = replicate_at w (summary_word l) 0 0 (omega arith);
+            claimed = replicate_at w (claim_word l) 0 0 (omega arith);
+            drawn = replicate_at w (drawn_word l) 0 0 (omega arith);
+          };
           slots = record {
-            count = length-map (replicate c None) some ∙ (length-replicate {A = Option T} c None ∙ (e' ∙ ap (λ i. 64 * i) (sym long)));
-            lying = λ l p x lt there. absurd (none_there 64 p x (ap (λ (y : Lane T). get_or y.values p None) (sym (empty l (omega arith))) ∙ there));
+            count = length-map (replicate c None) some ∙ (length-replicate {A = Option T} c None ∙ (e' ∙ ap (λ i. 512 * i) (sym long)));
+            lying = λ l p x lt there. absurd (none_there 512 p x (ap (λ (y : Lane T). get_or y.values p None) (sym (empty l (omega arith))) ∙ there));
             free = λ l p lt low _. all_home c (slot_at l p) None (omega arith);
           };
         };
         sound = start_sound k n;
       }
-    where
-      zero_word : (i : ℕ) → 0 ≡ lane_word (empty_lane {V = T}) 0 i
-      zero_word zero = refl
-      zero_word (suc zero) = refl
-      zero_word (suc (suc zero)) = refl
-      zero_word (suc (suc (suc i))) = refl

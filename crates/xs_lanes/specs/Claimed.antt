@@ -4,7 +4,7 @@ use Rattle.xs_lane_core.specs.Machine.{Placing, Actor, Machine}
 use Rattle.xs_lane_core.specs.Steps.{looks, claims}
 use Rattle.xs_lane_core.specs.Steps as answer
 use Rattle.xs_lane_core.specs.Claim.{ClaimGives}
-use Rattle.xs_lanes.specs.Knowing.{IsAlone}
+use Rattle.xs_lane_core.specs.Sound.{IsAlone}
 use Rattle.xs_lanes.specs.Exact.{HasActor}
 use Rattle.xs_lanes.specs.declared.claim.Claim.{Claim}
 use Rattle.xs_lanes.specs.declared.claim.Claim.TheVariants.{Got, NotWhole, Gone}

@@ -2,14 +2,14 @@
 use Rattle.std.specs.Prelude.{◌≡◌, ◌≢◌, ℕ, suc, ◌+◌, ◌<◌, min, true, false, if◌then◌else◌, List, [], ◌∷◌, ◌++◌, length, Option, None, sum_by}
 use Rattle.std.specs.List.{Contains}
 use Rattle.atomic_table.specs.Table.{Me}
-use Rattle.xs_lane_core.specs.Places.{places, every_place}
+use Rattle.xs_lane_core.specs.Places.{places, every_word}
 use Rattle.xs_lane_core.specs.declared.values.Stand.{Stand}
 use Rattle.xs_lane_core.specs.declared.values.Stand.TheVariants.{Idle, Pulling}
 use Rattle.xs_lane_core.specs.Machine.{Placing, Actor, Machine, actor_at, sees, finds_gone, gets}
-use Rattle.xs_lane_core.specs.Sound.{at, in_lane, IsSound}
+use Rattle.xs_lane_core.specs.Sound.{at, in_lane, IsAlone, IsSound}
 use Rattle.xs_lane_core.specs.Claim.{ClaimGives}
 use Rattle.xs_lanes.specs.Filing.{slot_at}
-use Rattle.xs_lanes.specs.Knowing.{IsAlone, FindsHome}
+use Rattle.xs_lanes.specs.Knowing.{FindsSummary}
 
 module _ {T : Type 0} where
   -- the pass got these values too, and stands so
@@ -52,21 +52,21 @@ module _ {T : Type 0} (k : Placing T) where
   pub record HasGot (v : Actor T) (l : ℕ) (xs : List T) (w : Actor T) : Type 0 where
     pub fresh : got_in l v ≡ 0
     pub not_gone : ¬ Contains v.gone l
-    pub found : FindsHome k v l every_place
+    pub found : FindsSummary k v l every_word
     pub run : IsRun l 0 xs
     pub stored : IsClaimOf l xs w
-    pub view : w ≡ gets_all xs Idle (sees Idle l every_place v)
+    pub view : w ≡ gets_all xs Idle (sees Idle l every_word v)
 
   -- the pass v found the lane claimed
   pub record HasFoundGone (v : Actor T) (l : ℕ) (w : Actor T) : Type 0 where
-    pub found : FindsHome k v l every_place
+    pub found : FindsSummary k v l every_word
     pub alone : IsAlone v → 0 < got_in l v
-    pub view : w ≡ finds_gone l (sees Idle l every_place v)
+    pub view : w ≡ finds_gone l (sees Idle l every_word v)
 
-  -- the pass v found these places home, which are not all
+  -- the pass v found these words in the summary, which are not all
   pub record HasSeenPart (v : Actor T) (l set : ℕ) (w : Actor T) : Type 0 where
-    pub part : set ≢ every_place
-    pub found : FindsHome k v l set
+    pub part : set ≢ every_word
+    pub found : FindsSummary k v l set
     pub view : w ≡ sees Idle l set v
 
   -- the pass pulls from the lane

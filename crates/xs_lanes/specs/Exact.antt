@@ -1,11 +1,10 @@
 -- What the lane machine answers where an actor with the whole share does one call.
 use Rattle.std.specs.Prelude.{◌≡◌, ℕ, ◌<◌, length}
 use Rattle.xs_lane_core.specs.Machine.{Placing, Actor, Machine, actor_at}
-use Rattle.xs_lane_core.specs.Steps.{Answer, Taken, Back, Lies, Stored, Made, Seen, Claimed, Gone, Pulled, Split, Joined, Refused, takes, puts, homes, looks}
-use Rattle.xs_lane_core.specs.Sound.{IsSound}
+use Rattle.xs_lane_core.specs.Steps.{Answer, Taken, Back, Lies, Owes, Stored, Made, Seen, Claimed, Gone, Pulled, Split, Joined, Refused, takes, puts, homes, sums, looks}
+use Rattle.xs_lane_core.specs.Sound.{IsSound, IsAlone}
 use Rattle.xs_lanes.specs.declared.lanes.Put.{Put}
 use Rattle.xs_lanes.specs.declared.lanes.Put.TheVariants as put
-use Rattle.xs_lanes.specs.Knowing.{IsAlone}
 
 abbrev pub answer_of : {T : Type 0} → Put T → Answer T
 answer_of put.Stored = Stored
@@ -13,9 +12,30 @@ answer_of put.Made = Made
 answer_of (put.Repeat x) = Back x
 
 module _ {T : Type 0} (k : Placing T) where
-  -- Take, and where the place was free Put and Home
+  -- Sum, where something is owed
+  abbrev pub sum_on : ℕ → Machine T → Answer T → Answer T
+  sum_on a m Owes = (sums m a).1
+  sum_on a m Taken = Taken
+  sum_on a m (Back x) = Back x
+  sum_on a m Lies = Lies
+  sum_on a m Stored = Stored
+  sum_on a m Made = Made
+  sum_on a m (Seen set) = Seen set
+  sum_on a m Claimed = Claimed
+  sum_on a m Gone = Gone
+  sum_on a m (Pulled x) = Pulled x
+  sum_on a m (Split b) = Split b
+  sum_on a m Joined = Joined
+  sum_on a m Refused = Refused
+
+  -- Home, and what follows it
+  abbrev pub home_on : ℕ → Machine T → Answer T
+  home_on a m = sum_on a (homes k m a).0 (homes k m a).1
+
+  -- Take, and where the place was free Put and what follows it
   abbrev pub put_on : ℕ → Machine T → Answer T → Answer T
-  put_on a m Taken = (homes k (puts k m a).0 a).1
+  put_on a m Taken = home_on a (puts k m a).0
+  put_on a m Owes = Owes
   put_on a m (Back x) = Back x
   put_on a m Lies = Lies
   put_on a m Stored = Stored

@@ -1,5 +1,6 @@
 pub mod Filing
 pub mod Knowing
+pub mod Debts
 pub mod Claiming
 pub mod Plays
 pub mod Passes
@@ -8,3 +9,4 @@ pub mod Exact
 pub mod Events
 pub mod Claimed
 pub mod Settled
+pub mod Gathering

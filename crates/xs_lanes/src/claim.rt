@@ -3,31 +3,34 @@ ghost use Rattle.std.specs.Prelude.{◌≡◌, ◌<◌, ℕ, ◌∷◌, ◌++◌
 ghost use Rattle.std.specs.List.{Contains};
 ghost use Rattle.xs_lane_core.specs.declared.values.Stand.TheVariants.{Idle, Saw, Pulling};
 ghost use Rattle.xs_lane_core.specs.Machine.{stands, finds_gone};
+ghost use Rattle.xs_lane_core.specs.Places.{places};
+ghost use Rattle.xs_lane_core.specs.Sound.{IsAlone};
 ghost use Rattle.xs_lanes.specs.Filing.{placing, slot_at};
-ghost use Rattle.xs_lanes.specs.Knowing.{IsAlone, SameShare, IsChoice};
+ghost use Rattle.xs_lanes.specs.Knowing.{SameShare, IsChoice};
 ghost use Rattle.xs_lanes.specs.Claiming.{got_in, gets_all, IsActor, IsRun, IsClaimOf, IsPulling, HasDrawn, OwesSlot};
 ghost use Rattle.xs_lanes.specs.Passes.{IsPassOf, view, lane_count};
 ghost use Rattle.xs_lanes.specs.Claimed.{ClaimAnswers, ClaimExactly};
 
 use crate::table::{GiveBack, Lanes, Pass, Pull, Win};
-use crate::words::{CLAIMED, DRAWN, slot_at, word_at};
+use crate::words::{CLAIMED, DRAWN, lane_word, slot_at};
 use arrayvec::ArrayVec;
 use xs_io::Placed;
+use xs_lane_core::{EVERY_WORD, PLACES};
 
 /// What became of a claim.
-#[derive(Clone, Copy, Debug, PartialEq, Eq)]
+#[derive(Clone, Copy, PartialEq, Eq)]
 pub enum Claim {
     /// The lane's values are the caller's.
     Got,
-    /// Only these places are home.
+    /// The summary has only these words.
     NotWhole(u64),
     /// The lane was claimed before.
     Gone,
 }
 
 // Puts the value at the end.
-fn keep<T: Drop>(into: &mut ArrayVec<T, 64>, value: T)
-    requires { length into.old.items < 64 }
+fn keep<T: Drop, A>(into: &mut ArrayVec<T, PLACES, A>, value: T)
+    requires { length into.old.items < places }
     ensures { into.new.items ≡ into.old.items ++ value ∷ [] }
 {
     into.push(value);
@@ -44,7 +47,7 @@ impl<T: Placed + Send + Drop> Lanes<T> {
             ((view pass.new ≡ stands (Pulling lane 0) (view pass.old)) × (got_in (placing T.lane_of T.slot_of T.closes_of) lane (view pass.old) ≡ 0) × ¬ Contains (view pass.old).gone lane)
             ((view pass.new ≡ finds_gone lane (view pass.old)) × (IsAlone (view pass.old) → 0 < got_in (placing T.lane_of T.slot_of T.closes_of) lane (view pass.old))) }
     {
-        let word = word_at(lane, CLAIMED);
+        let word = lane_word(lane, CLAIMED);
         let found = self.table.shared.swap::<Win>(pass, word, 1);
         found == 0
     }
@@ -58,7 +61,7 @@ impl<T: Placed + Send + Drop> Lanes<T> {
         ensures drawn { (j : ℕ) → (view pass.old).stand ≡ Pulling lane j
             → HasDrawn (placing T.lane_of T.slot_of T.closes_of) (view pass.old) lane j result (view pass.new) × (pass.new.me.1 ≡ (slot_at lane j, None) ∷ []) }
     {
-        let word = word_at(lane, DRAWN);
+        let word = lane_word(lane, DRAWN);
         let place = self.table.shared.fetch_add::<Pull>(pass, word, 1);
         let slot = slot_at(lane, place as usize);
         match self.table.shared.exchange(pass, slot, None) {
@@ -77,7 +80,7 @@ impl<T: Placed + Send + Drop> Lanes<T> {
     {
         self.table
             .shared
-            .load::<GiveBack>(pass, word_at(lane, DRAWN));
+            .load::<GiveBack>(pass, lane_word(lane, DRAWN));
     }
 
     // The next value of a lane that this pass has claimed.
@@ -95,7 +98,7 @@ impl<T: Placed + Send + Drop> Lanes<T> {
     }
 
     // All values of a lane that this pass has just claimed.
-    fn pull_all(&self, pass: &mut Pass<T>, lane: u32, into: &mut ArrayVec<T, 64>)
+    fn pull_all<A>(&self, pass: &mut Pass<T>, lane: u32, into: &mut ArrayVec<T, PLACES, A>)
         requires pass { (pass.old.table_id ≡ self.now.table.shared.table_id) × (pass.old.me.1 ≡ []) }
         requires pulling { (view pass.old).stand ≡ Pulling lane 0 }
         requires lane { lane < lane_count self.now }
@@ -117,7 +120,12 @@ impl<T: Placed + Send + Drop> Lanes<T> {
 
     /// Claims the lane, where it is whole and nobody has claimed it, and takes its values out, in the order of their
     /// places up to the one that closes the lane.
-    pub fn claim(&self, pass: &mut Pass<T>, lane: u32, into: &mut ArrayVec<T, 64>) -> Claim
+    pub fn claim<A>(
+        &self,
+        pass: &mut Pass<T>,
+        lane: u32,
+        into: &mut ArrayVec<T, PLACES, A>,
+    ) -> Claim
         requires pass { IsPassOf self.now pass.old }
         requires lane { lane < lane_count self.now }
         requires empty { into.old.items ≡ [] }
@@ -128,7 +136,7 @@ impl<T: Placed + Send + Drop> Lanes<T> {
         ensures choice { IsAlone (view pass.old) → IsChoice (placing T.lane_of T.slot_of T.closes_of) (view pass.old) }
     {
         let found = self.look(pass, lane);
-        if found != u64::MAX {
+        if found != EVERY_WORD {
             return Claim::NotWhole(found);
         }
         if !self.win(pass, lane) {

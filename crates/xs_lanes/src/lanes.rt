@@ -4,9 +4,11 @@ ghost use Rattle.xs_lane_core.specs.Machine.{newcomer, halves, copied, joined};
 ghost use Rattle.xs_lanes.specs.Passes.{IsPassOf, view, lane_count};
 
 use crate::table::{Halves, Lanes, Pass};
+use crate::words::LANE_WORDS;
 use atomic_table::Table;
 use std::alloc::Global;
 use xs_io::{Memory, Placed};
+use xs_lane_core::PLACES;
 
 /// What became of a value that was put.
 #[derive(Drop)]
@@ -33,11 +35,11 @@ impl<T: Placed + Send + Drop> Lanes<T> {
         ensures first { IfOk result (λ r. view r.1 ≡ newcomer) }
         ensures count { IfOk result (λ r. lane_count r.0 ≡ lanes) }
     {
-        let words = zeros(alloc, 4 * lanes as usize)?;
+        let words = zeros(alloc, LANE_WORDS * lanes as usize)?;
         let (table, pass) = Table::vacant(
             alloc,
             words.as_slice(),
-            64 * lanes as usize,
+            PLACES * lanes as usize,
             &(),
         ).map_err(|_| Memory)?;
         Ok((

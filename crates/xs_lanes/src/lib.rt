@@ -1,4 +1,4 @@
-//! Lanes of 64 places each, which threads file values into. No call waits: each step is one atomic operation.
+//! Lanes of 512 places each, which threads file values into. No call waits: each step is one atomic operation.
 #![tactic(auto)]
 
 mod claim;
@@ -12,9 +12,7 @@ mod words;
 pub use claim::Claim;
 pub use closed::Closed;
 pub use lanes::Put;
-pub use laws::each_step_is_an_event;
+pub use laws::{each_step_is_an_event, shares_join, whole_is_stored};
 pub use table::{Known, Lanes, Pass};
 pub use xs_io::Placed;
-
-#[cfg(test)]
-mod tests;
+pub use xs_lane_core::PLACES;

@@ -1,53 +1,27 @@
 // The steps of a put, and a look.
-ghost use Rattle.std.specs.Prelude.{◌≡◌, ◌<◌, ◌∷◌, [], ◌&&◌, not, nat_eq, MatchBool, None};
-ghost use Rattle.std.specs.List.{Contains};
-ghost use Rattle.xs_lane_core.specs.Places.{only, every_place, with_places};
-ghost use Rattle.xs_lane_core.specs.declared.values.Stand.TheVariants.{Holding};
-ghost use Rattle.xs_lane_core.specs.Machine.{mask, repeats, stores, sees};
-ghost use Rattle.xs_lane_core.specs.Steps.{is_free};
-ghost use Rattle.xs_lanes.specs.declared.lanes.Put.TheVariants.{Made};
-ghost use Rattle.xs_lanes.specs.Filing.{placing, word_at, slot_at};
-ghost use Rattle.xs_lanes.specs.Knowing.{IsAlone, SameShare, IsChoice, FindsHome, stored_at};
+ghost use Rattle.std.specs.Prelude.{◌≡◌, ◌<◌, ◌∷◌, [], MatchBool, None};
+ghost use Rattle.xs_lane_core.specs.Places.{places};
+ghost use Rattle.xs_lane_core.specs.Machine.{repeats, sees};
+ghost use Rattle.xs_lane_core.specs.Sound.{IsAlone};
+ghost use Rattle.xs_lanes.specs.Filing.{placing, slot_at};
+ghost use Rattle.xs_lanes.specs.Knowing.{SameShare, IsChoice, FindsSummary, stored_at};
 ghost use Rattle.xs_lanes.specs.Plays.{stand_seen};
 ghost use Rattle.xs_lanes.specs.Passes.{IsPassOf, view, lane_count};
-ghost use Rattle.xs_lanes.specs.Answers.{Answers, HasTaken, Holds};
+ghost use Rattle.xs_lanes.specs.Answers.{Answers, HasTaken, Holds, HasBrought, IsOwing, HasJoined};
 ghost use Rattle.xs_lanes.specs.Exact.{PutExactly, LookExactly};
 
 use crate::lanes::Put;
-use crate::table::{Home, Lanes, Look, Pass, Take};
-use crate::words::{HOME, TAKEN, bit_of, slot_at, word_at};
+use crate::table::{Home, Lanes, Look, Pass, Sum, Take};
+use crate::words::{HOME, SUMMARY, lane_word, slot_at};
 use xs_io::Placed;
-
-const LAST_SLOT: u32 = 63;
-
-// The places that a value brings home: its own, or where it closes all from its own on.
-fn places_of<T: Placed>(value: &T) -> u64
-    requires { T.slot_of value.now < 64 }
-    ensures { result ≡ mask (placing T.lane_of T.slot_of T.closes_of) value.now }
-{
-    let slot = value.slot();
-    if value.closes() {
-        u64::MAX << slot
-    } else if slot == LAST_SLOT {
-        0
-    } else {
-        bit_of(slot)
-    }
-}
-
-// Whether the places that are home are all, and were not before.
-fn makes_whole(before: u64, after: u64) -> bool
-    ensures { result ≡ (not (nat_eq before every_place) && nat_eq after every_place) }
-{
-    before != u64::MAX && after == u64::MAX
-}
+use xs_lane_core::{home_bits, makes_whole, owed, own_bit, word_of};
 
 impl<T: Placed + Send + Drop> Lanes<T> {
     // Takes the value's place, or finds that it is taken.
     fn take(&self, pass: &mut Pass<T>, value: &T) -> bool
         requires pass { IsPassOf self.now pass.old }
         requires lane { T.lane_of value.now < lane_count self.now }
-        requires slot { T.slot_of value.now < 64 }
+        requires slot { T.slot_of value.now < places }
         ensures same { (pass.new.table_id ≡ pass.old.table_id) × (pass.new.id ≡ pass.old.id) }
         ensures choice { IsAlone (view pass.old) → IsChoice (placing T.lane_of T.slot_of T.closes_of) (view pass.old) }
         ensures taken { MatchBool result
@@ -55,36 +29,53 @@ impl<T: Placed + Send + Drop> Lanes<T> {
             ((view pass.new ≡ repeats (T.lane_of value.now) (T.slot_of value.now) (view pass.old)) × (pass.new.me.1 ≡ [])
             × (IsAlone (view pass.old) → stored_at (placing T.lane_of T.slot_of T.closes_of) (T.lane_of value.now) (T.slot_of value.now) (view pass.old) ≡ 1)) }
     {
-        let bit = bit_of(value.slot());
-        let word = word_at(value.lane(), TAKEN);
+        let place = value.slot();
+        let bit = own_bit(place);
+        let word = lane_word(value.lane(), word_of(place) as usize);
         let found = self.table.shared.fetch_or::<Take>(pass, word, bit);
         found & bit == 0
     }
 
-    // Moves the value into its slot, and brings its places home. Answers those that were home before.
-    fn bring(&self, pass: &mut Pass<T>, value: T, places: u64) -> u64
+    // Moves the value into its slot, and brings its places home. Answers the words that are owed to the summary.
+    fn bring(&self, pass: &mut Pass<T>, value: T) -> u64
         requires pass { pass.old.table_id ≡ self.now.table.shared.table_id }
         requires held { Holds (placing T.lane_of T.slot_of T.closes_of) (view pass.old) (T.lane_of value) (T.slot_of value) }
         requires out { pass.old.me.1 ≡ (slot_at (T.lane_of value) (T.slot_of value), None) ∷ [] }
         requires lane { T.lane_of value < lane_count self.now }
-        requires slot { T.slot_of value < 64 }
-        requires places { places ≡ mask (placing T.lane_of T.slot_of T.closes_of) value }
+        requires slot { T.slot_of value < places }
         ensures same { (pass.new.table_id ≡ pass.old.table_id) × (pass.new.me.1 ≡ []) }
-        ensures found { FindsHome (placing T.lane_of T.slot_of T.closes_of) (view pass.old) (T.lane_of value) result }
-        ensures home { view pass.new ≡ stores value (T.lane_of value) (with_places result places) (view pass.old) }
+        ensures brought { HasBrought (placing T.lane_of T.slot_of T.closes_of) (view pass.old) value (view pass.new) result }
     {
-        let lane = value.lane();
-        let slot = slot_at(lane, value.slot() as usize);
-        let word = word_at(lane, HOME);
+        let (lane, place, closes) = (value.lane(), value.slot(), value.closes());
+        let set_word = word_of(place);
+        let more = home_bits(closes, place);
+        let slot = slot_at(lane, place as usize);
+        let word = lane_word(lane, HOME + set_word as usize);
         drop(self.table.shared.exchange(pass, slot, Some(value)));
-        self.table.shared.fetch_or::<Home>(pass, word, places)
+        let before = self.table.shared.fetch_or::<Home>(pass, word, more);
+        owed(closes, set_word, before, before | more)
+    }
+
+    // Adds the words that are owed to the lane's summary. Answers whether the lane is whole by them.
+    fn sum(&self, pass: &mut Pass<T>, lane: u32, words: u64) -> bool
+        requires pass { (pass.old.table_id ≡ self.now.table.shared.table_id) × (pass.old.me.1 ≡ []) }
+        requires owes { IsOwing lane words (view pass.old) }
+        requires lane { lane < lane_count self.now }
+        ensures same { (pass.new.table_id ≡ pass.old.table_id) × (pass.new.me.1 ≡ []) }
+        ensures summed { HasJoined (placing T.lane_of T.slot_of T.closes_of) (view pass.old) lane words (view pass.new) result }
+    {
+        let before = self
+            .table
+            .shared
+            .fetch_or::<Sum>(pass, lane_word(lane, SUMMARY), words);
+        makes_whole(before, before | words)
     }
 
     /// Files the value, or hands it back where its place is taken.
     pub fn put(&self, pass: &mut Pass<T>, value: T) -> Put<T>
         requires pass { IsPassOf self.now pass.old }
         requires lane { T.lane_of value < lane_count self.now }
-        requires slot { T.slot_of value < 64 }
+        requires slot { T.slot_of value < places }
         ensures pass { IsPassOf self.now pass.new }
         ensures share { SameShare (view pass.old) (view pass.new) }
         ensures answer { Answers (placing T.lane_of T.slot_of T.closes_of) (view pass.old) value (view pass.new) result }
@@ -94,26 +85,32 @@ impl<T: Placed + Send + Drop> Lanes<T> {
         if !self.take(pass, &value) {
             return Put::Repeat(value);
         }
-        let places = places_of(&value);
-        let before = self.bring(pass, value, places);
-        if makes_whole(before, before | places) {
+        let lane = value.lane();
+        let words = self.bring(pass, value);
+        if words == 0 {
+            return Put::Stored;
+        }
+        if self.sum(pass, lane, words) {
             Put::Made
         } else {
             Put::Stored
         }
     }
 
-    /// The places of the lane that are home, one bit each.
+    /// The summary of the lane: bit w is set where the places 64 * w to 64 * w + 63 are full, or past the one that closes
+    /// the lane. The lane is whole where it is 255.
     pub fn look(&self, pass: &mut Pass<T>, lane: u32) -> u64
         requires pass { IsPassOf self.now pass.old }
         requires lane { lane < lane_count self.now }
         ensures pass { IsPassOf self.now pass.new }
         ensures share { SameShare (view pass.old) (view pass.new) }
         ensures seen { view pass.new ≡ sees (stand_seen lane result) lane result (view pass.old) }
-        ensures found { FindsHome (placing T.lane_of T.slot_of T.closes_of) (view pass.old) lane result }
+        ensures found { FindsSummary (placing T.lane_of T.slot_of T.closes_of) (view pass.old) lane result }
         ensures exact { LookExactly (placing T.lane_of T.slot_of T.closes_of) (lane_count self.now) (view pass.old) lane result }
         ensures choice { IsAlone (view pass.old) → IsChoice (placing T.lane_of T.slot_of T.closes_of) (view pass.old) }
     {
-        self.table.shared.load::<Look>(pass, word_at(lane, HOME))
+        self.table
+            .shared
+            .load::<Look>(pass, lane_word(lane, SUMMARY))
     }
 }

@@ -51,6 +51,15 @@ impl<T: Placed> Play<Option<T>, Known<T>> for Home {
     ghost then = { came_home (placing T.lane_of T.slot_of T.closes_of) };
 }
 
+pub struct Sum;
+
+impl<T: Placed> Play<Option<T>, Known<T>> for Sum {
+    ghost use Rattle.xs_lanes.specs.Filing.{placing};
+    ghost use Rattle.xs_lanes.specs.Plays.{summed};
+
+    ghost then = { summed (placing T.lane_of T.slot_of T.closes_of) };
+}
+
 pub struct Look;
 
 impl<T: Placed> Play<Option<T>, Known<T>> for Look {
@@ -73,9 +82,9 @@ pub struct Pull;
 
 impl<T: Placed> Play<Option<T>, Known<T>> for Pull {
     ghost use Rattle.xs_lanes.specs.Filing.{placing};
-    ghost use Rattle.xs_lanes.specs.Plays.{pulled};
+    ghost use Rattle.xs_lanes.specs.Plays.{drew};
 
-    ghost then = { pulled (placing T.lane_of T.slot_of T.closes_of) };
+    ghost then = { drew (placing T.lane_of T.slot_of T.closes_of) };
 }
 
 pub struct GiveBack;
@@ -105,12 +114,12 @@ impl<T> Join<Known<T>> for Halves {
     ghost spent = { nobody };
 }
 
-/// Lanes of 64 places each. Threads share them by reference, each with a pass of its own.
+/// Lanes of 512 places each. Threads share them by reference, each with a pass of its own.
 #[derive(Drop)]
 pub struct Lanes<T: Placed + Send + Drop> {
     pub(crate) table: Table<Option<T>, Known<T>, (), Filing, Global>,
     pub(crate) count: u32,
     ghost has_lane: { 0 < count },
-    ghost has_words: { table.shared.table_id.words ≡ 4 * count },
-    ghost has_slots: { table.shared.table_id.slots ≡ 64 * count },
+    ghost has_words: { table.shared.table_id.words ≡ 19 * count },
+    ghost has_slots: { table.shared.table_id.slots ≡ 512 * count },
 }

@@ -1,33 +1,31 @@
 // Where the words and slots of a lane stand in the table.
 ghost use Rattle.std.specs.Prelude.{◌≡◌, ◌<◌};
-ghost use Rattle.xs_lane_core.specs.Places.{only};
-ghost use Rattle.xs_lanes.specs.Filing.{word_at, slot_at};
+ghost use Rattle.xs_lane_core.specs.Places.{places};
+ghost use Rattle.xs_lanes.specs.Filing.{lane_word, slot_at};
 
-pub const TAKEN: usize = 0;
+use xs_lane_core::PLACES;
 
-pub const HOME: usize = 1;
+// The words of a lane: eight of the places that are taken, eight of those that are home, and three more.
+pub const LANE_WORDS: usize = 19;
 
-pub const CLAIMED: usize = 2;
+pub const HOME: usize = 8;
 
-pub const DRAWN: usize = 3;
+pub const SUMMARY: usize = 16;
 
-pub fn word_at(lane: u32, word: usize) -> usize
-    requires { word < 4 }
-    ensures { result ≡ word_at lane word }
+pub const CLAIMED: usize = 17;
+
+pub const DRAWN: usize = 18;
+
+pub fn lane_word(lane: u32, word: usize) -> usize
+    requires { word < 19 }
+    ensures { result ≡ lane_word lane word }
 {
-    4 * lane as usize + word
+    LANE_WORDS * lane as usize + word
 }
 
-pub fn slot_at(lane: u32, slot: usize) -> usize
-    requires { slot < 64 }
-    ensures { result ≡ slot_at lane slot }
+pub fn slot_at(lane: u32, place: usize) -> usize
+    requires { place < places }
+    ensures { result ≡ slot_at lane place }
 {
-    64 * lane as usize + slot
-}
-
-pub fn bit_of(slot: u32) -> u64
-    requires { slot < 64 }
-    ensures { result ≡ only slot }
-{
-    1 << slot
+    PLACES * lane as usize + place
 }

@@ -1,4 +1,4 @@
-use Rattle.xs_lane_core.proofs.Keeps.{take_keeps, put_keeps, home_keeps, look_keeps, claim_keeps, pull_keeps, split_keeps, join_keeps}
+use Rattle.xs_lane_core.proofs.Keeps.{take_keeps, put_keeps, home_keeps, sum_keeps, look_keeps, claim_keeps, pull_keeps, split_keeps, join_keeps}
 use Rattle.xs_lane_core.proofs.laws.each_event_keeps_sound.Goals as goal
 
 pub returns-clause-take : goal.returns-clause-take
@@ -24,3 +24,6 @@ returns-clause-split g c = split_keeps
 
 pub returns-clause-join : goal.returns-clause-join
 returns-clause-join g c = join_keeps
+
+pub returns-clause-sum : goal.returns-clause-sum
+returns-clause-sum g c = sum_keeps

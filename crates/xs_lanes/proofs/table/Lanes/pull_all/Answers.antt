@@ -11,11 +11,11 @@ pub pull-value-requires-clause-pulling : goal.pull-value-requires-clause-pulling
 pull-value-requires-clause-pulling g c = λ _ _. (length c.pulling.into.items, ap (λ (v : Actor g.row.T.Denot). v.stand) c.pulling.invariant.pulled.0)
 
 pub keep-requires : goal.keep-requires
-keep-requires g c = let d = c.pull-value.ensures.drawn (length c.pulling.into.items) (ap (λ (v : Actor g.row.T.Denot). v.stand) c.pulling.invariant.pulled.0) in let low = d.low in (search rules, (let e : length c.pulling.into.items < 64 = low in e))
+keep-requires g c = let d = c.pull-value.ensures.drawn (length c.pulling.into.items) (ap (λ (v : Actor g.row.T.Denot). v.stand) c.pulling.invariant.pulled.0) in let low = d.low in (search rules, (let e : length c.pulling.into.items < 512 = low in e))
 
 pub pulling-smaller : goal.pulling-smaller
 pulling-smaller g c = let d = c.pull-value.ensures.drawn (length c.pulling.into.items) (ap (λ (v : Actor g.row.T.Denot). v.stand) c.pulling.invariant.pulled.0) in let low = d.low in let more : length c.keep.new.into.items ≡ length c.pulling.into.items + 1 = ap (λ (l : List g.row.T.Denot). length l) c.keep.ensures ∙ length-append c.pulling.into.items (c.pull-value.result ∷ []) in
-    let e : 64 - length c.keep.new.into.items < 64 - length c.pulling.into.items = omega arith in e
+    let e : 512 - length c.keep.new.into.items < 512 - length c.pulling.into.items = omega arith in e
 
 pub pulling-preserved : goal.pulling-preserved
 pulling-preserved g c = let d = c.pull-value.ensures.drawn (length c.pulling.into.items) (ap (λ (v : Actor g.row.T.Denot). v.stand) c.pulling.invariant.pulled.0) in record {

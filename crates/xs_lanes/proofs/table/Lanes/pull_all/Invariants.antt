@@ -12,4 +12,4 @@ invariant-pulling g l = record {
 }
 
 abbrev pub decreases-pulling : goal.decreases-pulling
-decreases-pulling g l = 64 - length l.into.items
+decreases-pulling g l = 512 - length l.into.items

@@ -1,6 +1,0 @@
-use Rattle.xs_lanes.specs.Knowing.{SameShare}
-use Rattle.xs_lanes.specs.Passes.{IsPassOf, view}
-use Rattle.xs_lanes.proofs.tests.Worker.claim_all.Given as goal
-
-abbrev pub invariant-claiming : goal.invariant-claiming
-invariant-claiming l = IsPassOf l.lanes l.self.pass × SameShare (view l.initial.self.pass) (view l.self.pass)
