@@ -4,7 +4,7 @@ use Rattle.std.specs.Prelude.{unwrap_or, OnOk, ◌↔◌}
 use Rattle.std.specs.Io.KnownBytes.{Consumes, IsAtEnd}
 use Rattle.std.proofs.Math.Seq.{take-length}
 use Rattle.std.proofs.lemmas.List.{length-drop, take-append-drop}
-use Rattle.xs_io.specs.Bytes.{AreBytes}
+use Rattle.xs_io.specs.Bytes.{AreByteItems}
 use Rattle.xs_io.specs.Causes.{Rose}
 use Rattle.xs_params.specs.declared.header.Header.{Header}
 use Rattle.xs_faults.specs.Names.{NamesSliceFault}
@@ -15,7 +15,7 @@ use Rattle.xs_faults.specs.declared.SliceFault.TheVariants as slice_fault
 use Rattle.xs_faults.specs.declared.StreamFault.{StreamFault}
 use Rattle.xs_faults.specs.declared.StreamFault.TheVariants as stream_fault
 use Rattle.xs_grammar.specs.Precinct.{Content}
-use Rattle.xs_grammar.specs.Slice.{eoc}
+use Rattle.xs_params.specs.Markers.{eoc}
 use Rattle.xs_grammar.proofs.OneStream.{one_codestream}
 use Rattle.xs_decoding.specs.Built.{IsBuiltFront, IsBuiltStream, IsUnbuiltAt}
 use Rattle.xs_picture.specs.Reading.{IsStreamRefusal}
@@ -51,7 +51,7 @@ on_ok P (Ok out) p = p
 on_ok P (Err why) p = tt
 
 -- the whole input was read, and decoded as far as there is memory
-pub decoded_as_far : (before after : Option (List ℕ)) (faults faults' : ℕ) (bytes : List ℕ) (result : Result (List ℕ) Stop) → AreBytes bytes → length bytes ≤ input_limit
+pub decoded_as_far : (before after : Option (List ℕ)) (faults faults' : ℕ) (bytes : List ℕ) (result : Result (List ℕ) Stop) → AreByteItems bytes → length bytes ≤ input_limit
     → Consumes before after bytes → IsAtEnd after → IsUnlessMemory (IsDecoded bytes) result → IsDone Decode (change_of before after faults faults') result
 decoded_as_far before after faults faults' bytes result small within consumed end given = record {
   input = bytes;

@@ -3,7 +3,7 @@ use Rattle.std.proofs.Common.{ap, ◌≡◌, ℕ, ◌+◌, List, [], length, Res
 use Rattle.std.specs.Prelude.{unwrap_or, OnOk}
 use Rattle.std.proofs.lemmas.Bool.Decides.{nat_tests}
 use Rattle.xs_params.specs.declared.settings.Settings.{Settings}
-use Rattle.xs_params.specs.Picture.{raw_size, picture_of}
+use Rattle.xs_params.specs.Picture.{raw_size, picture_of_raw}
 use Rattle.xs_params.specs.Stream.{Stream}
 use Rattle.xs_faults.specs.declared.Budget.{Budget}
 use Rattle.xs_params.specs.Check.{AreInRange}
@@ -25,12 +25,13 @@ built s asked range = record {
   quant = ap (λ (t : Settings). t.quant) asked.1;
   signs = ap (λ (t : Settings). t.signs_apart) asked.1;
   weights = ap (λ (t : Settings). t.weights) asked.1;
+  filler = ap (λ (t : Settings). t.fill) asked.1;
 }
 
 encoded_form : (s : Settings) (input : List ℕ) → ¬ (length input ≡ raw_size s.shape) → encoded s input ≡ Err stop.InputForm
 encoded_form s input other = grind (arith, nat_tests)
 
-encoded_whole : (s : Settings) (input : List ℕ) → length input ≡ raw_size s.shape → encoded s input ≡ codestream_of (encoding_of s (picture_of s.shape input))
+encoded_whole : (s : Settings) (input : List ℕ) → length input ≡ raw_size s.shape → encoded s input ≡ codestream_of (encoding_of s (picture_of_raw s.shape input))
 encoded_whole s input same = grind (arith, nat_tests)
 
 -- the input is not encoded
@@ -84,11 +85,11 @@ as_wanted wanted other most input source (Err stop.Memory) same no_fault given =
 
 -- the input is read, and encoded as far as there is memory
 pub encoded_as_far : (s : Settings) (source : Change) (size : ℕ) (bytes : List ℕ) (result : Result (List ℕ) Stop) → size ≡ raw_size s.shape → TookAtMost (size + 1) source
-    → IsReading size source (Ok bytes) → IsUnlessMemory (λ (r : Result (List ℕ) Stop). codestream_of (encoding_of s (picture_of s.shape bytes)) ≡ r) result → IsDone (Encode s) source result
+    → IsReading size source (Ok bytes) → IsUnlessMemory (λ (r : Result (List ℕ) Stop). codestream_of (encoding_of s (picture_of_raw s.shape bytes)) ≡ r) result → IsDone (Encode s) source result
 encoded_as_far s source size bytes result same took reading given = record {
   input = bytes;
   left = reading.1;
-  outcome = as_wanted _ _ (raw_size s.shape) bytes source result (encoded_whole s bytes (reading.0 ∙ same)) (never_a_read_fault (encoding_of s (picture_of s.shape bytes))) given;
+  outcome = as_wanted _ _ (raw_size s.shape) bytes source result (encoded_whole s bytes (reading.0 ∙ same)) (never_a_read_fault (encoding_of s (picture_of_raw s.shape bytes))) given;
   taken = subst (λ most. TookAtMost (most + 1) source) same took;
   whole = used result;
 }

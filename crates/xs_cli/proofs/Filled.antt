@@ -12,7 +12,7 @@ use Rattle.xs_layout.specs.declared.Shape.{Shape}
 use Rattle.xs_layout.specs.declared.Format.{Format}
 use Rattle.xs_layout.specs.declared.Format.TheVariants.{Mono}
 use Rattle.xs_layout.specs.Geometry.{component_width_of, components_of}
-use Rattle.xs_params.specs.Picture.{IsPicture, IsRow, Picture, raw_bytes, raw_size, row_first, row_of, sample_bytes, sample_count, sample_size, width_of, with_row}
+use Rattle.xs_params.specs.Picture.{IsPicture, IsRow, Picture, raw_bytes, raw_size, row_first, samples_of_row, sample_bytes, sample_count, sample_size, width_of, with_samples}
 
 -- the first samples, and zeros in the place of the others
 abbrev pub filled : List ℕ → ℕ → List ℕ
@@ -85,7 +85,7 @@ same_picture p shape samples same same' = ap (λ s. record { shape = s; samples 
 -- a row is replaced
 pub row_filled : (p : Picture) (shape : Shape) (row : ℕ) (samples new : List ℕ) → shape.format ≡ Mono → p.shape ≡ shape → p.samples ≡ filled samples (row * shape.width)
     → new ≡ take shape.width (drop (row * shape.width) samples) → row * shape.width + shape.width ≤ length samples
-    → (with_row p 0 row new).samples ≡ filled samples ((row + 1) * shape.width)
+    → (with_samples p 0 row new).samples ≡ filled samples ((row + 1) * shape.width)
 row_filled p shape row samples new mono same old row_is within =
     let first : row_first p.shape 0 row ≡ row * shape.width = ap (λ (s : Shape). row_first s 0 row) same ∙ mono_first shape row mono in
     let next : row * shape.width + shape.width ≡ (row + 1) * shape.width = grind arith in
@@ -104,12 +104,12 @@ bytes_of_samples picture depth = ap (λ d. flat_map (sample_bytes d) picture.sam
 
 -- one row more
 pub rows_more : (picture : Picture) (row : ℕ) (bytes new : List ℕ) → picture.shape.format ≡ Mono → bytes ≡ take (row * picture.shape.width) picture.samples
-    → new ≡ row_of picture 0 row → bytes ++ new ≡ take ((row + 1) * picture.shape.width) picture.samples
+    → new ≡ samples_of_row picture 0 row → bytes ++ new ≡ take ((row + 1) * picture.shape.width) picture.samples
 rows_more picture row bytes new mono old row_is =
     let width = picture.shape.width in
     let start : ℕ = row * width in
     let next : start + width ≡ (row + 1) * width = grind arith in
-    let here : row_of picture 0 row ≡ take width (drop start picture.samples) =
+    let here : samples_of_row picture 0 row ≡ take width (drop start picture.samples) =
     ap (λ w. take w (drop (row_first picture.shape 0 row) picture.samples)) (mono_width picture.shape mono) ∙ ap (λ first. take width (drop first picture.samples)) (mono_first picture.shape row mono) in
     ap (λ l. l ++ new) old ∙ ap (λ l. take start picture.samples ++ l) (row_is ∙ here) ∙ sym (take-add start width picture.samples) ∙ ap (λ n. take n picture.samples) next
 

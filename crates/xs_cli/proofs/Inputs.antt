@@ -5,12 +5,12 @@ use Rattle.std.specs.Io.KnownBytes.{Consumes, IsAtEnd}
 use Rattle.std.proofs.lemmas.Bool.{cases_order}
 use Rattle.std.proofs.lemmas.List.{length-map}
 use Rattle.std.proofs.lemmas.List.Elements.{All-nil, All-cons}
-use Rattle.xs_io.specs.Bytes.{AreBytes}
+use Rattle.xs_io.specs.Bytes.{AreByteItems}
 use Rattle.xs_io.specs.Causes.{Rose}
 use Rattle.xs_cli.specs.Ends.{change_of, IsLeft, WasLeft, IsUsedUp}
 use Rattle.xs_cli.specs.Steps.{FailedWithin}
 
-no_bytes : AreBytes []
+no_bytes : AreByteItems []
 no_bytes = All-nil (λ (item : ℕ). item < 256)
 
 -- what was taken and what is left, where that is told; else what was taken
@@ -18,7 +18,7 @@ abbrev pub joined : Option (List ℕ) → List ℕ → Option (List ℕ) → Lis
 joined None taken after = taken
 joined (Some bytes) taken after = taken ++ unwrap_or after []
 
-pub was_joined : (before after : Option (List ℕ)) (taken : List ℕ) → AreBytes taken → Consumes before after taken → IsLeft before (joined before taken after)
+pub was_joined : (before after : Option (List ℕ)) (taken : List ℕ) → AreByteItems taken → Consumes before after taken → IsLeft before (joined before taken after)
 was_joined None after taken bytes consumed = bytes
 was_joined (Some bytes) None taken small consumed = absurd consumed
 was_joined (Some bytes) (Some rest) taken small consumed = consumed
@@ -29,7 +29,7 @@ was_some None = no_bytes
 was_some (Some bytes) = refl
 
 -- all was taken
-pub was_whole : (before after : Option (List ℕ)) (taken : List ℕ) → AreBytes taken → Consumes before after taken → IsAtEnd after → IsLeft before taken
+pub was_whole : (before after : Option (List ℕ)) (taken : List ℕ) → AreByteItems taken → Consumes before after taken → IsAtEnd after → IsLeft before taken
 was_whole None after taken bytes consumed end = bytes
 was_whole (Some bytes) None taken small consumed end = absurd consumed
 was_whole (Some bytes) (Some rest) taken small consumed end = consumed ∙ ap (λ more. taken ++ more) end ∙ append-nil taken
@@ -62,7 +62,7 @@ failed_within most (Some bytes) None faults faults' front rose within consumed =
 failed_within most (Some bytes) (Some rest) faults faults' front rose within consumed =
     (front ++ rest, consumed, record { cause = rose; taken = front; front = (rest, refl); within = within; consumed = consumed })
 
-low_bytes : (items : List ℕ) → AreBytes (map (λ (item : ℕ). item % 256) items)
+low_bytes : (items : List ℕ) → AreByteItems (map (λ (item : ℕ). item % 256) items)
 low_bytes [] = no_bytes
 low_bytes (item ∷ items) = All-cons (λ (item : ℕ). item < 256) (item % 256) (map (λ (item : ℕ). item % 256) items) (omega arith) (low_bytes items)
 

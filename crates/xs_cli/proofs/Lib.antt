@@ -1,6 +1,6 @@
 mod Inputs
 mod Encodings
-mod Followed
+mod Executed
 mod Runs
 mod Filled
 mod Decodings

@@ -1,8 +1,8 @@
--- How a run ends, from what following the words gave and from what was told.
+-- How a run ends, from what came of its words and from what was told.
 use Rattle.std.proofs.Common.{◌≡◌, ℕ, ◌<◌, ◌≤◌, List, Result, Ok, Err, Option, Some, None, refl, sym, ap, subst, ◌∙◌, arith, inl, inr, ◌⊎◌}
 use Rattle.std.specs.Prelude.{Bool, true, false, nat_eq, length, if◌then◌else◌}
 use Rattle.std.proofs.KnownBytes.{Appends-nil, Keeps-refl}
-use Rattle.xs_params.specs.Picture.{raw_size, picture_of}
+use Rattle.xs_params.specs.Picture.{raw_size, picture_of_raw}
 use Rattle.xs_params.specs.Stream.{Stream}
 use Rattle.xs_faults.specs.declared.Budget.{Budget}
 use Rattle.xs_faults.specs.declared.PrecinctFault.TheVariants as precinct_fault
@@ -23,7 +23,8 @@ use Rattle.xs_cli.specs.Answer.{IsOutcome, IsResult, IsResultUnless, codestream_
 use Rattle.xs_cli.specs.Decoding.{IsDamage, damage_note}
 use Rattle.xs_cli.specs.Ends.{Change, Ends, HasFailed, IsLeft, IsWriteStatus, Tells, change_of, ends_of}
 use Rattle.xs_cli.specs.Run.{HasAnswer, HasRefusals, HasStatusCause, HasStatusOfAnswer, IsBreak, IsComplete, IsEnding, IsInputFailure, IsRun, IsUnlessBroken, LeavesSource}
-use Rattle.xs_cli.specs.Steps.{IsFollowed, IsTold, IsUnlessFailed, NamesStop, most_wanted}
+use Rattle.xs_cli.specs.Steps.{IsExecuted, IsTold, IsUnlessFailed, NamesStop, most_wanted}
+use Rattle.xs_cli.proofs.Executed.{unexecuted}
 
 -- Statuses
 
@@ -143,15 +144,15 @@ not_refused : (words : List (List ℕ)) (input : List ℕ) (why : Refusal) (resu
 not_refused words input why result outcome unlike e = unlike (subst (λ (o : Option Refusal). IsResultUnless o (command_of words) input result) e outcome)
 
 -- The result was given to the output
-pub after_output : (words : List (List ℕ)) (source output : Change) (held : Option (List ℕ)) (faults : ℕ) (out : List ℕ) (status : ℕ) → IsFollowed words source (Ok out)
+pub after_output : (words : List (List ℕ)) (source output : Change) (held : Option (List ℕ)) (faults : ℕ) (out : List ℕ) (status : ℕ) → IsExecuted words source (Ok out)
     → Tells output out 0 status → IsRun words (ends_of source output (change_of held held faults faults)) status
-after_output words source output held faults out status follow told =
+after_output words source output held faults out status executed told =
     let by = ended output out 0 status told in
     run_of words _ status
     (record {
-      input = follow.input;
-      left = follow.left;
-      ending = ending_by_output words follow.input source output held faults out status follow.outcome told;
+      input = executed.input;
+      left = executed.left;
+      ending = ending_by_output words executed.input source output held faults out status executed.outcome told;
     })
     (record {
       read = λ e. absurd (never output 0 7 status (inr (omega arith)) (omega arith) by e);
@@ -160,11 +161,11 @@ after_output words source output held faults out status follow told =
     })
     (record {
       words_only = λ e. absurd (never output 0 1 status (inr (omega arith)) (omega arith) by e);
-      bad_words = λ bad. absurd (not_refused words follow.input (refusal.Words bad.0) (Ok out) follow.outcome (λ x. absurd (cc)) bad.1);
+      bad_words = λ bad. absurd (not_refused words executed.input (refusal.Words bad.0) (Ok out) executed.outcome (λ x. absurd (cc)) bad.1);
       setting_only = λ e. absurd (never output 0 2 status (inr (omega arith)) (omega arith) by e);
-      bad_setting = λ bad. absurd (not_refused words follow.input (refusal.Setting bad.0) (Ok out) follow.outcome (λ x. absurd (cc)) bad.1);
+      bad_setting = λ bad. absurd (not_refused words executed.input (refusal.Setting bad.0) (Ok out) executed.outcome (λ x. absurd (cc)) bad.1);
     })
-    (record { whole = λ _. follow.whole; most = follow.taken; kept = follow.kept })
+    (record { whole = λ _. executed.whole; most = executed.taken; kept = executed.kept })
 
 -- Stops
 
@@ -244,7 +245,7 @@ never_refuses false x (refusal.Setting setting) e = cc
 
 -- nor does a command
 no_refusal : (command : Command) (input : List ℕ) (why : Refusal) → ¬ IsResult command input (Err (stop_of why))
-no_refusal (Encode s) input why given = never_refuses (nat_eq (length input) (raw_size s.shape)) (encoding_of s (picture_of s.shape input)) why given
+no_refusal (Encode s) input why given = never_refuses (nat_eq (length input) (raw_size s.shape)) (encoding_of s (picture_of_raw s.shape input)) why given
 no_refusal Decode input (refusal.Words place) given = given
 no_refusal Decode input (refusal.Setting setting) given = given
 
@@ -299,98 +300,98 @@ refusals_unknown words sink status by = record {
 abbrev stopped_by : Stop → Result (List ℕ) Stop
 stopped_by why = Err why
 
-refusals_of : (words : List (List ℕ)) (source sink : Change) (status : ℕ) (why : Stop) → IsFollowed words source (Err why) → Ended sink (stop_status why) status → HasRefusals words status
-refusals_of words source sink status (stop.Words place) follow by = refusals_refused words follow.input sink status (refusal.Words place) follow.outcome by
-refusals_of words source sink status (stop.Setting setting) follow by = refusals_refused words follow.input sink status (refusal.Setting setting) follow.outcome by
-refusals_of words source sink status stop.InputForm follow by =
-    refusals_accepted words sink 3 status (λ why. not_refused words follow.input why (Err stop.InputForm) follow.outcome (unlike why)) (omega arith) by
+refusals_of : (words : List (List ℕ)) (source sink : Change) (status : ℕ) (why : Stop) → IsExecuted words source (Err why) → Ended sink (stop_status why) status → HasRefusals words status
+refusals_of words source sink status (stop.Words place) executed by = refusals_refused words executed.input sink status (refusal.Words place) executed.outcome by
+refusals_of words source sink status (stop.Setting setting) executed by = refusals_refused words executed.input sink status (refusal.Setting setting) executed.outcome by
+refusals_of words source sink status stop.InputForm executed by =
+    refusals_accepted words sink 3 status (λ why. not_refused words executed.input why (Err stop.InputForm) executed.outcome (unlike why)) (omega arith) by
   where
     unlike : (why : Refusal) → ¬ (stopped_by (stop_of why) ≡ stopped_by stop.InputForm)
     unlike (refusal.Words first) e = cc
     unlike (refusal.Setting setting) e = cc
-refusals_of words source sink status stop.InputLimit follow by =
-    refusals_accepted words sink 3 status (λ why. not_refused words follow.input why (Err stop.InputLimit) follow.outcome (unlike why)) (omega arith) by
+refusals_of words source sink status stop.InputLimit executed by =
+    refusals_accepted words sink 3 status (λ why. not_refused words executed.input why (Err stop.InputLimit) executed.outcome (unlike why)) (omega arith) by
   where
     unlike : (why : Refusal) → ¬ (stopped_by (stop_of why) ≡ stopped_by stop.InputLimit)
     unlike (refusal.Words first) e = cc
     unlike (refusal.Setting setting) e = cc
-refusals_of words source sink status (stop.InputCut place) follow by =
-    refusals_accepted words sink 3 status (λ why. not_refused words follow.input why (Err (stop.InputCut place)) follow.outcome (unlike why)) (omega arith) by
+refusals_of words source sink status (stop.InputCut place) executed by =
+    refusals_accepted words sink 3 status (λ why. not_refused words executed.input why (Err (stop.InputCut place)) executed.outcome (unlike why)) (omega arith) by
   where
     unlike : (why : Refusal) → ¬ (stopped_by (stop_of why) ≡ stopped_by (stop.InputCut place))
     unlike (refusal.Words first) e = cc
     unlike (refusal.Setting setting) e = cc
-refusals_of words source sink status (stop.Budget budget) follow by =
-    refusals_accepted words sink 4 status (λ why. not_refused words follow.input why (Err (stop.Budget budget)) follow.outcome (unlike why)) (omega arith) by
+refusals_of words source sink status (stop.Budget budget) executed by =
+    refusals_accepted words sink 4 status (λ why. not_refused words executed.input why (Err (stop.Budget budget)) executed.outcome (unlike why)) (omega arith) by
   where
     unlike : (why : Refusal) → ¬ (stopped_by (stop_of why) ≡ stopped_by (stop.Budget budget))
     unlike (refusal.Words first) e = cc
     unlike (refusal.Setting setting) e = cc
-refusals_of words source sink status (stop.Damaged damage) follow by =
-    refusals_accepted words sink 6 status (λ why. not_refused words follow.input why (Err (stop.Damaged damage)) follow.outcome (unlike why)) (omega arith) by
+refusals_of words source sink status (stop.Damaged damage) executed by =
+    refusals_accepted words sink 6 status (λ why. not_refused words executed.input why (Err (stop.Damaged damage)) executed.outcome (unlike why)) (omega arith) by
   where
     unlike : (why : Refusal) → ¬ (stopped_by (stop_of why) ≡ stopped_by (stop.Damaged damage))
     unlike (refusal.Words first) e = cc
     unlike (refusal.Setting setting) e = cc
-refusals_of words source sink status stop.ReadFault follow by = refusals_accepted words sink 7 status (λ why e. none_some (follow.command refl) e) (omega arith) by
+refusals_of words source sink status stop.ReadFault executed by = refusals_accepted words sink 7 status (λ why e. none_some (executed.command refl) e) (omega arith) by
   where
     none_some : {why : Refusal} → refusal_of words ≡ None → refusal_of words ≡ Some why → ⊥
     none_some none some = cc
-refusals_of words source sink status stop.Memory follow by = refusals_unknown words sink status by
+refusals_of words source sink status stop.Memory executed by = refusals_unknown words sink status by
 
 -- The answers
 
-answered : (words : List (List ℕ)) (source notes : Change) (held : Option (List ℕ)) (faults : ℕ) (why : Stop) (status : ℕ) (follow : IsFollowed words source (Err why))
-    → IsOutcome words follow.input (Err why) → Tells notes (stop_line why) (stop_status why) status → HasAnswer words (ends_of source (change_of held held faults faults) notes) status
-answered words source notes held faults why status follow outcome told = record {
-  input = follow.input;
-  left = follow.left;
-  ending = ending_by_note words follow.input source notes held faults why status outcome told;
+answered : (words : List (List ℕ)) (source notes : Change) (held : Option (List ℕ)) (faults : ℕ) (why : Stop) (status : ℕ) (executed : IsExecuted words source (Err why))
+    → IsOutcome words executed.input (Err why) → Tells notes (stop_line why) (stop_status why) status → HasAnswer words (ends_of source (change_of held held faults faults) notes) status
+answered words source notes held faults why status executed outcome told = record {
+  input = executed.input;
+  left = executed.left;
+  ending = ending_by_note words executed.input source notes held faults why status outcome told;
 }
 
-answer_of_stop : (words : List (List ℕ)) (source notes : Change) (held : Option (List ℕ)) (faults : ℕ) (why : Stop) (status : ℕ) → IsFollowed words source (Err why)
+answer_of_stop : (words : List (List ℕ)) (source notes : Change) (held : Option (List ℕ)) (faults : ℕ) (why : Stop) (status : ℕ) → IsExecuted words source (Err why)
     → IsTold notes why status → HasAnswer words (ends_of source (change_of held held faults faults) notes) status
-answer_of_stop words source notes held faults (stop.Words place) status follow told = answered words source notes held faults (stop.Words place) status follow follow.outcome told
-answer_of_stop words source notes held faults (stop.Setting setting) status follow told = answered words source notes held faults (stop.Setting setting) status follow follow.outcome told
-answer_of_stop words source notes held faults stop.InputForm status follow told = answered words source notes held faults stop.InputForm status follow follow.outcome told
-answer_of_stop words source notes held faults stop.InputLimit status follow told = answered words source notes held faults stop.InputLimit status follow follow.outcome told
-answer_of_stop words source notes held faults (stop.InputCut place) status follow told = answered words source notes held faults (stop.InputCut place) status follow follow.outcome told
-answer_of_stop words source notes held faults (stop.Budget budget) status follow told = answered words source notes held faults (stop.Budget budget) status follow follow.outcome told
-answer_of_stop words source notes held faults (stop.Damaged damage) status follow told = answered words source notes held faults (stop.Damaged damage) status follow follow.outcome told
-answer_of_stop words source notes held faults stop.ReadFault status follow told = record {
-  input = follow.input;
-  left = follow.left;
-  ending = ending_by_fault words follow.input source (change_of held held faults faults) notes status
+answer_of_stop words source notes held faults (stop.Words place) status executed told = answered words source notes held faults (stop.Words place) status executed executed.outcome told
+answer_of_stop words source notes held faults (stop.Setting setting) status executed told = answered words source notes held faults (stop.Setting setting) status executed executed.outcome told
+answer_of_stop words source notes held faults stop.InputForm status executed told = answered words source notes held faults stop.InputForm status executed executed.outcome told
+answer_of_stop words source notes held faults stop.InputLimit status executed told = answered words source notes held faults stop.InputLimit status executed executed.outcome told
+answer_of_stop words source notes held faults (stop.InputCut place) status executed told = answered words source notes held faults (stop.InputCut place) status executed executed.outcome told
+answer_of_stop words source notes held faults (stop.Budget budget) status executed told = answered words source notes held faults (stop.Budget budget) status executed executed.outcome told
+answer_of_stop words source notes held faults (stop.Damaged damage) status executed told = answered words source notes held faults (stop.Damaged damage) status executed executed.outcome told
+answer_of_stop words source notes held faults stop.ReadFault status executed told = record {
+  input = executed.input;
+  left = executed.left;
+  ending = ending_by_fault words executed.input source (change_of held held faults faults) notes status
       (record {
-        command = follow.command refl;
-        cause = follow.outcome.cause;
-        taken = follow.outcome.taken;
-        front = follow.outcome.front;
-        most = follow.outcome.within;
-        consumed = follow.outcome.consumed;
+        command = executed.command refl;
+        cause = executed.outcome.cause;
+        taken = executed.outcome.taken;
+        front = executed.outcome.front;
+        most = executed.outcome.within;
+        consumed = executed.outcome.consumed;
         output = Keeps-refl held;
       })
       told;
 }
-answer_of_stop words source notes held faults stop.Memory status follow told = record {
-  input = follow.input;
-  left = follow.left;
+answer_of_stop words source notes held faults stop.Memory status executed told = record {
+  input = executed.input;
+  left = executed.left;
   ending = inr (inr (inr (record { nine = told.1; output = Keeps-refl held; notes = told.0 })));
 }
 
 -- The run was stopped, which was told to the notes
-pub after_stop : (words : List (List ℕ)) (source notes : Change) (held : Option (List ℕ)) (faults : ℕ) (why : Stop) (status : ℕ) → IsFollowed words source (Err why)
+pub after_stop : (words : List (List ℕ)) (source notes : Change) (held : Option (List ℕ)) (faults : ℕ) (why : Stop) (status : ℕ) → IsExecuted words source (Err why)
     → IsTold notes why status → IsRun words (ends_of source (change_of held held faults faults) notes) status
-after_stop words source notes held faults why status follow told =
+after_stop words source notes held faults why status executed told =
     let by = told_as notes why status told in
-    run_of words _ status (answer_of_stop words source notes held faults why status follow told)
+    run_of words _ status (answer_of_stop words source notes held faults why status executed told)
     (record {
-      read = read_cause why (most_wanted (command_of words)) (IsOutcome words follow.input) follow.input source notes status follow.outcome by;
+      read = read_cause why (most_wanted (command_of words)) (IsOutcome words executed.input) executed.input source notes status executed.outcome by;
       write = λ e. inr (failed_where_8 notes (stop_status why) status (not_8 why) by e);
       range = at_most_9 notes (stop_status why) status (status_range why) by;
     })
-    (refusals_of words source notes status why follow by)
-    (record { whole = λ e. absurd (not_done by e); most = follow.taken; kept = follow.kept })
+    (refusals_of words source notes status why executed by)
+    (record { whole = λ e. absurd (not_done by e); most = executed.taken; kept = executed.kept })
   where
     not_done : Ended notes (stop_status why) status → ¬ (status ≡ 0)
     not_done (inl same) e = not_0 why (sym e ∙ same)
@@ -418,19 +419,27 @@ names_damage input (damage.Slice slice (slice_fault.Precinct number (precinct_fa
 names_damage input (damage.Slice slice (slice_fault.Precinct number (precinct_fault.Unbuilt packet))) given = λ e. cc
 names_damage input (damage.Slice slice (slice_fault.Precinct number precinct_fault.Memory)) given = given.1
 
-pub names_stop : (words : List (List ℕ)) (source : Change) (why : Stop) → IsFollowed words source (Err why) → NamesStop why
-names_stop words source (stop.Words place) follow = tt
-names_stop words source (stop.Setting setting) follow = tt
-names_stop words source stop.InputForm follow = tt
-names_stop words source stop.InputLimit follow = tt
-names_stop words source (stop.InputCut place) follow = tt
-names_stop words source (stop.Budget budget) follow = tt
-names_stop words source (stop.Damaged damage) follow = by_refusal (refusal_of words) (command_of words) follow.outcome
+pub names_stop : (words : List (List ℕ)) (source : Change) (why : Stop) → IsExecuted words source (Err why) → NamesStop why
+names_stop words source (stop.Words place) executed = tt
+names_stop words source (stop.Setting setting) executed = tt
+names_stop words source stop.InputForm executed = tt
+names_stop words source stop.InputLimit executed = tt
+names_stop words source (stop.InputCut place) executed = tt
+names_stop words source (stop.Budget budget) executed = tt
+names_stop words source (stop.Damaged damage) executed = by_refusal (refusal_of words) (command_of words) executed.outcome
   where
-    by_refusal : (o : Option Refusal) (command : Command) → IsResultUnless o command follow.input (Err (stop.Damaged damage)) → NamesFault (damage_note damage)
-    by_refusal None (Encode s) outcome = absurd (never_damaged (nat_eq (length follow.input) (raw_size s.shape)) (encoding_of s (picture_of s.shape follow.input)) damage outcome)
-    by_refusal None Decode outcome = names_damage follow.input damage outcome.1
+    by_refusal : (o : Option Refusal) (command : Command) → IsResultUnless o command executed.input (Err (stop.Damaged damage)) → NamesFault (damage_note damage)
+    by_refusal None (Encode s) outcome = absurd (never_damaged (nat_eq (length executed.input) (raw_size s.shape)) (encoding_of s (picture_of_raw s.shape executed.input)) damage outcome)
+    by_refusal None Decode outcome = names_damage executed.input damage outcome.1
     by_refusal (Some (refusal.Words place)) command outcome = absurd (cc)
     by_refusal (Some (refusal.Setting setting)) command outcome = absurd (cc)
-names_stop words source stop.ReadFault follow = tt
-names_stop words source stop.Memory follow = tt
+names_stop words source stop.ReadFault executed = tt
+names_stop words source stop.Memory executed = tt
+
+-- memory was wanting before the words were there, and every end is as it was
+pub starved : (words : List (List ℕ)) (left held noted : Option (List ℕ)) (read written said : ℕ)
+    → IsRun words (ends_of (change_of left left read read) (change_of held held written written) (change_of noted noted said said)) 9
+starved words left held noted read written said =
+    after_stop words (change_of left left read read) (change_of noted noted said said) held written stop.Memory 9
+    (unexecuted words left read)
+    (Keeps-refl noted, refl)

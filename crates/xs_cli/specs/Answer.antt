@@ -1,12 +1,12 @@
 -- What a run answers, by its words and its input: 'Command words' and 'Notes'. Neither the number of workers nor a schedule occurs.
 use Rattle.std.specs.Prelude.{◌≡◌, ℕ, nat_eq, if◌then◌else◌, Option, Some, None, Result, Ok, Err, List, [], length, codes}
 use Rattle.xs_params.specs.declared.settings.Settings.{Settings}
-use Rattle.xs_params.specs.Picture.{raw_size, picture_of}
+use Rattle.xs_params.specs.Picture.{raw_size, picture_of_raw}
 use Rattle.xs_params.specs.Stream.{Stream, stream_bytes}
 use Rattle.xs_faults.specs.declared.Budget.{Budget}
 use Rattle.xs_rate.specs.Encoding.{encoding_of}
 use Rattle.xs_notes.specs.declared.note.Note.TheVariants as note
-use Rattle.xs_notes.specs.Lines.{line_of}
+use Rattle.xs_notes.specs.Lines.{note_line}
 use Rattle.xs_cli.specs.declared.stop.Stop.{Stop}
 use Rattle.xs_cli.specs.declared.stop.Stop.TheVariants as stop
 use Rattle.xs_cli.specs.Decoding.{IsDecoded, damage_note, input_limit}
@@ -24,16 +24,16 @@ abbrev pub input_form_line : List ℕ
 input_form_line = codes "input form\n"
 
 abbrev pub read_fault_line : List ℕ
-read_fault_line = line_of note.ReadFault
+read_fault_line = note_line note.ReadFault
 
 abbrev pub stop_line : Stop → List ℕ
-stop_line (stop.Words place) = line_of (note.Words place)
-stop_line (stop.Setting setting) = line_of (note.Setting setting)
+stop_line (stop.Words place) = note_line (note.Words place)
+stop_line (stop.Setting setting) = note_line (note.Setting setting)
 stop_line stop.InputForm = input_form_line
-stop_line stop.InputLimit = line_of (note.InputLimit input_limit)
-stop_line (stop.InputCut place) = line_of (note.InputCut place)
-stop_line (stop.Budget budget) = line_of (note.Budget 0 budget.slice budget.size budget.share)
-stop_line (stop.Damaged damage) = line_of (damage_note damage)
+stop_line stop.InputLimit = note_line (note.InputLimit input_limit)
+stop_line (stop.InputCut place) = note_line (note.InputCut place)
+stop_line (stop.Budget budget) = note_line (note.Budget 0 budget.slice budget.size budget.share)
+stop_line (stop.Damaged damage) = note_line (damage_note damage)
 stop_line stop.ReadFault = read_fault_line
 stop_line stop.Memory = []
 
@@ -61,7 +61,7 @@ codestream_of (Err budget) = Err (stop.Budget budget)
 
 -- exactly one raw picture becomes a codestream
 abbrev pub encoded : Settings → List ℕ → Result (List ℕ) Stop
-encoded s input = if nat_eq (length input) (raw_size s.shape) then codestream_of (encoding_of s (picture_of s.shape input)) else Err stop.InputForm
+encoded s input = if nat_eq (length input) (raw_size s.shape) then codestream_of (encoding_of s (picture_of_raw s.shape input)) else Err stop.InputForm
 
 -- a command's result: what is written, or why it stops
 abbrev pub IsResult : Command → List ℕ → Result (List ℕ) Stop → Type 0

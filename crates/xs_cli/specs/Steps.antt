@@ -63,8 +63,8 @@ pub record IsDone (command : Command) (source : Change) (result : Result (List �
   pub taken : TookAtMost (most_wanted command + 1) source
   pub whole : OnOk result (IsUsedUp source)
 
--- the words are read and followed
-pub record IsFollowed (words : List (List ℕ)) (source : Change) (result : Result (List ℕ) Stop) : Type 0 where
+-- the words are read and executed
+pub record IsExecuted (words : List (List ℕ)) (source : Change) (result : Result (List ℕ) Stop) : Type 0 where
   pub input : List ℕ
   pub left : WasLeft source input
   pub outcome : IsUnlessFailed (most_wanted (command_of words)) (IsOutcome words input) input source result

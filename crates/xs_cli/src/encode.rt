@@ -1,6 +1,6 @@
 // One raw picture becomes a codestream.
 ghost use Rattle.std.specs.Prelude.{◌≡◌, ℕ, ◌+◌, ◌<◌, ◌^◌, length};
-ghost use Rattle.xs_params.specs.Picture.{picture_of, raw_size};
+ghost use Rattle.xs_params.specs.Picture.{picture_of_raw, raw_size};
 ghost use Rattle.xs_params.specs.Check.{IsChecked};
 ghost use Rattle.xs_rate.specs.Encoding.{IsBuilt, encoding_of};
 ghost use Rattle.xs_words.specs.declared.command.Command.TheVariants as Command;
@@ -46,7 +46,7 @@ fn read<R: Source>(alloc: Global, input: &mut R, size: usize) -> Result<Octets, 
 fn codestream(alloc: Global, settings: &Checked, bytes: &[u8]) -> Result<Octets, Stop>
     requires built { IsBuilt settings.now }
     requires size { length bytes.now ≡ raw_size settings.now.shape }
-    ensures { IsUnlessMemory (λ wanted. codestream_of (encoding_of settings.now (picture_of settings.now.shape bytes.now)) ≡ wanted) result }
+    ensures { IsUnlessMemory (λ wanted. codestream_of (encoding_of settings.now (picture_of_raw settings.now.shape bytes.now)) ≡ wanted) result }
 {
     let planes = match planes(alloc, settings.settings().shape, bytes) {
         Ok(planes) => planes,

@@ -1,7 +1,7 @@
 // Raw pictures of one component with samples of one byte.
 ghost use Rattle.std.specs.Prelude.{◌≡◌, ℕ, ◌*◌, ◌<◌, ◌^◌, ◌++◌, length, IfOk, OnOk};
 ghost use Rattle.xs_layout.specs.declared.Format.TheVariants.{Mono};
-ghost use Rattle.xs_params.specs.Picture.{AreSamples, IsShape, picture_of, raw_bytes, raw_size};
+ghost use Rattle.xs_params.specs.Picture.{AreSamples, IsShape, picture_of_raw, raw_bytes, raw_size};
 
 use std::alloc::Global;
 use xs_io::{Memory, Octets};
@@ -22,7 +22,7 @@ pub fn planes(alloc: Global, shape: Shape, bytes: &[u8]) -> Result<Planes, Memor
     requires mono { shape.format ≡ Mono }
     requires depth { shape.depth ≡ 8 }
     requires size { length bytes.now ≡ raw_size shape }
-    ensures { IfOk result (λ planes. planes ≡ picture_of shape bytes.now) }
+    ensures { IfOk result (λ planes. planes ≡ picture_of_raw shape bytes.now) }
 {
     let mut planes = Planes::blank(alloc, shape)?;
     let mut samples = Vec::new(alloc);

@@ -4,7 +4,7 @@ ghost use Rattle.xs_cli.specs.Answer.{stop_of};
 ghost use Rattle.xs_cli.specs.Decoding.{damage_note};
 ghost use Rattle.xs_cli.specs.Ends.{Tells, change_of};
 ghost use Rattle.xs_cli.specs.Steps.{IsTold, NamesStop};
-ghost use Rattle.xs_notes.specs.Lines.{NamesFault, line_of};
+ghost use Rattle.xs_notes.specs.Lines.{NamesFault, note_line};
 
 use std::alloc::Global;
 use xs_faults::{Budget, HeadFault, SliceFault};
@@ -19,7 +19,8 @@ pub const INPUT_LIMIT: u64 = 1 << 30;
 /// All was done.
 pub const DONE: u8 = 0;
 
-const BAD_WORDS: u8 = 1;
+/// The words are no command.
+pub const BAD_WORDS: u8 = 1;
 
 const BAD_SETTING: u8 = 2;
 
@@ -33,10 +34,11 @@ const READ_FAULT: u8 = 7;
 
 const WRITE_FAULT: u8 = 8;
 
-const NO_MEMORY: u8 = 9;
+/// Memory was wanting.
+pub const NO_MEMORY: u8 = 9;
 
 /// Why a run stops before all is done.
-#[derive(Clone, Copy, Debug, PartialEq, Eq)]
+#[derive(Clone, Copy)]
 pub enum Stop {
     /// The words are no command; the place of the first bad one, counted from 0.
     Words { place: u32 },
@@ -59,7 +61,7 @@ pub enum Stop {
 }
 
 /// What is damaged of a codestream.
-#[derive(Clone, Copy, Debug, PartialEq, Eq)]
+#[derive(Clone, Copy)]
 pub enum Damage {
     Header(HeadFault),
     Slice { slice: u32, fault: SliceFault },
@@ -143,7 +145,7 @@ pub fn tell<N: Sink>(alloc: Global, notes: &mut N, stop: Stop) -> u8
 /// Gives the line of a note.
 fn note<N: Sink>(alloc: Global, notes: &mut N, note: &Note, status: u8) -> u8
     requires { NamesFault note.now }
-    ensures { Tells (change_of (N.held notes.old) (N.held notes.new) (N.faults notes.old) (N.faults notes.new)) (line_of note.now) status result }
+    ensures { Tells (change_of (N.held notes.old) (N.held notes.new) (N.faults notes.old) (N.faults notes.new)) (note_line note.now) status result }
 {
     match report(alloc, note) {
         Ok(line) => give(notes, line.as_slice(), status),

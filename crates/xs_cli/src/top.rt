@@ -3,7 +3,7 @@ ghost use Rattle.std.specs.Prelude.{map};
 ghost use Rattle.std.specs.String.{string_bytes};
 ghost use Rattle.xs_cli.specs.Ends.{change_of, ends_of};
 ghost use Rattle.xs_cli.specs.Run.{IsRun};
-ghost use Rattle.xs_cli.specs.Steps.{IsFollowed};
+ghost use Rattle.xs_cli.specs.Steps.{IsExecuted};
 
 use crate::decode::decode;
 use crate::encode::encode;
@@ -32,15 +32,15 @@ pub fn run<T: Threads + Sync, R: Source, W: Sink, N: Sink, G: Gate>(
         (change_of (W.held output.old) (W.held output.new) (W.faults output.old) (W.faults output.new))
         (change_of (N.held notes.old) (N.held notes.new) (N.faults notes.old) (N.faults notes.new))) result }
 {
-    match follow(alloc, words, input) {
+    match execute(alloc, words, input) {
         Ok(out) => give(output, out.as_slice(), DONE),
         Err(stop) => tell(alloc, notes, stop),
     }
 }
 
-/// Reads the words and does what they say, but for its output.
-fn follow<R: Source>(alloc: Global, words: &[String], input: &mut R) -> Result<Octets, Stop>
-    ensures { IsFollowed (map string_bytes words.now) (change_of (R.left input.old) (R.left input.new) (R.faults input.old) (R.faults input.new)) result }
+/// Reads the words and does what they say, but for what is written.
+fn execute<R: Source>(alloc: Global, words: &[String], input: &mut R) -> Result<Octets, Stop>
+    ensures { IsExecuted (map string_bytes words.now) (change_of (R.left input.old) (R.left input.new) (R.faults input.old) (R.faults input.new)) result }
 {
     match command_of(alloc, words) {
         Ok(Command::Encode(settings)) => encode(alloc, &settings, input),

@@ -1,9 +1,10 @@
 -- One more piece was given or taken.
-use Rattle.std.proofs.Common.{ℕ, ◌+◌, ◌-◌, ◌≤◌, ◌≡◌, List, ◌++◌, length, take, drop, Option, subst, sym, ap, ◌∙◌, arith, length-append}
+use Rattle.std.proofs.Common.{ℕ, ◌+◌, ◌-◌, ◌≤◌, ◌≡◌, List, ◌++◌, length, take, drop, Option, Result, Ok, Err, subst, sym, ap, ◌∙◌, arith, length-append}
 use Rattle.std.proofs.lemmas.List.{length-take-le, take-append-drop, take_rest, drop-drop}
 use Rattle.std.proofs.Math.Seq.{take-add}
 use Rattle.std.proofs.KnownBytes.{Appends-trans, Consumes-trans}
 use Rattle.std.specs.Io.KnownBytes.{Appends, Consumes}
+use Rattle.std.specs.Result.{OnErr}
 
 pub appends_more : (a b c : Option (List ℕ)) (xs : List ℕ) (i n : ℕ) → Appends a b (take i xs) → Appends b c (take n (drop i xs)) → Appends a c (take (i + n) xs)
 appends_more a b c xs i n first second =
@@ -32,3 +33,8 @@ pub took_front : (bytes out : List ℕ) (at n : ℕ) → take n out ≡ take n (
 took_front bytes out at n copied =
     sym (take-append-drop n (drop at bytes)) ∙ ap (λ l. take n l ++ drop n (drop at bytes)) (sym (take_rest bytes at)) ∙ ap (λ l. l ++ drop n (drop at bytes)) (sym copied)
     ∙ ap (λ l. take n out ++ l) (drop-drop n at bytes)
+
+-- what holds in any case holds at an error
+pub on_err_always : {T E P : Type 0} (result : Result T E) → P → OnErr result P
+on_err_always (Ok value) holds = tt
+on_err_always (Err fault) holds = holds

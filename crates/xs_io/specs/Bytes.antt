@@ -2,8 +2,8 @@
 use Rattle.std.specs.Prelude.{ℕ, ◌<◌, ◌^◌, List, All}
 
 -- each item is a byte
-abbrev pub AreBytes : List ℕ → Type 0
-AreBytes items = All (λ item. item < 256) items
+abbrev pub AreByteItems : List ℕ → Type 0
+AreByteItems items = All (λ item. item < 256) items
 
 -- each item is a number of 32 bits
 abbrev pub AreWords : List ℕ → Type 0

@@ -1,5 +1,5 @@
 // Who is asked whether a worker goes on.
-ghost use Rattle.std.specs.Prelude.{◌≡◌, ◌<◌, ◌≤◌, true, false};
+ghost use Rattle.std.specs.Prelude.{◌≡◌, ◌<◌, ◌≤◌, ◌^◌, true, false};
 
 use std::hint;
 use std::sync::atomic::AtomicU32;
@@ -12,7 +12,7 @@ pub trait Gate: Sync {
 }
 
 /// Lets every worker go on.
-#[derive(Clone, Copy, Debug)]
+#[derive(Clone, Copy)]
 pub struct OpenGate;
 
 impl Gate for OpenGate {
@@ -24,7 +24,7 @@ impl Gate for OpenGate {
 }
 
 /// Ends every worker's scan at its first pass.
-#[derive(Clone, Copy, Debug)]
+#[derive(Clone, Copy)]
 pub struct StopGate;
 
 impl Gate for StopGate {
@@ -48,6 +48,14 @@ const MEETING_LOOKS: u32 = 100_000_000;
 
 const IDLE_LOOKS: u32 = 25_000;
 
+// The flag of a worker: one bit for each.
+fn flag_of(worker: u32) -> u32
+    requires { worker ≤ 16 }
+    ensures { result ≡ 2 ^ worker }
+{
+    1 << worker
+}
+
 impl TurnstileGate {
     ghost use Rattle.xs_io.specs.Gates.{turnstile_parties};
 
@@ -67,8 +75,16 @@ impl TurnstileGate {
         self.met.load(SeqCst)
     }
 
+    // Sets the worker's flag, and answers whether it was set before.
+    fn set(&self, worker: u32) -> bool
+        requires { worker < 16 }
+    {
+        let flag = flag_of(worker);
+        self.flags.fetch_or(flag, SeqCst) & flag != 0
+    }
+
     fn all_set(&self) -> bool {
-        self.flags.load(SeqCst) == (1 << self.parties) - 1
+        self.flags.load(SeqCst) == flag_of(self.parties) - 1
     }
 
     fn look(&self, times: u32) -> bool {
@@ -96,8 +112,7 @@ impl Gate for TurnstileGate {
             self.look(IDLE_LOOKS);
             return true;
         }
-        let flag = 1 << worker;
-        if self.flags.fetch_or(flag, SeqCst) & flag != 0 {
+        if self.set(worker) {
             return self.all_set();
         }
         let all = self.look(MEETING_LOOKS);

@@ -6,6 +6,7 @@ mod gates;
 mod lists;
 mod memory;
 mod moves;
+mod placed;
 mod traits;
 
 pub use adapters::{ReadAdapter, WriteAdapter};
@@ -13,7 +14,5 @@ pub use gates::{Gate, OpenGate, StopGate, TurnstileGate};
 pub use lists::{Memory, Numbers, Octets};
 pub use memory::{MemSink, MemSource, SureSink, SureSource};
 pub use moves::{give_all, take_all, take_exact};
-pub use traits::{Failed, Placed, Sink, SinkFault, Source, TakeFault};
-
-#[cfg(test)]
-mod tests;
+pub use placed::Placed;
+pub use traits::{Failed, Sink, SinkFault, Source, TakeFault};

@@ -1,6 +1,6 @@
 // Lists of bytes and of numbers that say what is left after want of memory.
-ghost use Rattle.std.specs.Prelude.{◌≡◌, ◌∷◌, ℕ, List, [], ◌++◌, length, IfOk, is_ok, if◌then◌else◌};
-ghost use Rattle.xs_io.specs.Bytes.{AreBytes, AreWords};
+ghost use Rattle.std.specs.Prelude.{◌≡◌, ◌∷◌, ℕ, List, [], ◌++◌, length, take, IfOk, is_ok, if◌then◌else◌};
+ghost use Rattle.xs_io.specs.Bytes.{AreByteItems, AreWords};
 
 use std::alloc::Global;
 use std::marker::Model;
@@ -12,7 +12,7 @@ pub struct Memory;
 // The slice as it is, with what its type says of each item.
 fn bytes_of(items: &[u8]) -> &[u8]
     ensures items { result.now ≡ items.now }
-    ensures bytes { AreBytes items.now }
+    ensures bytes { AreByteItems items.now }
 {
     items
 }
@@ -49,10 +49,8 @@ impl Octets {
     pub fn from_slice(alloc: Global, items: &[u8]) -> Result<Octets, Memory>
         ensures copied { IfOk result (λ list. list ≡ items.now) }
     {
-        match Vec::from_slice(alloc, items) {
-            Ok(items) => Ok(Octets { items }),
-            Err(_) => Err(Memory),
-        }
+        let items = Vec::from_slice(alloc, items).map_err(|_| Memory)?;
+        Ok(Octets { items })
     }
 
     /// Makes room for `more` further bytes, so that the list moves but once while they come.
@@ -76,9 +74,16 @@ impl Octets {
         self.items.extend_from_slice(items).map_err(|_| Memory)
     }
 
+    /// Keeps the first `count` items, or all where there are no more.
+    pub fn truncate(&mut self, count: usize)
+        ensures kept { self.new ≡ take count self.old }
+    {
+        self.items.truncate(count);
+    }
+
     pub fn as_slice(&self) -> &[u8]
         ensures items { result.now ≡ self.now }
-        ensures bytes { AreBytes self.now }
+        ensures bytes { AreByteItems self.now }
     {
         bytes_of(self.items.as_slice())
     }
@@ -115,10 +120,8 @@ impl Numbers {
     pub fn from_slice(alloc: Global, items: &[u32]) -> Result<Numbers, Memory>
         ensures copied { IfOk result (λ list. list ≡ items.now) }
     {
-        match Vec::from_slice(alloc, items) {
-            Ok(items) => Ok(Numbers { items }),
-            Err(_) => Err(Memory),
-        }
+        let items = Vec::from_slice(alloc, items).map_err(|_| Memory)?;
+        Ok(Numbers { items })
     }
 
     /// Appends the items. Where it is refused, the list is as before.

@@ -4,7 +4,7 @@ ghost use Rattle.std.specs.Io.{ReadsAtMost};
 ghost use Rattle.std.specs.Io.KnownBytes.{ReadConsumes, WriteAppends};
 ghost use Rattle.xs_io.specs.Causes.{HasCause, HasSinkCause, one_more};
 
-use crate::lists::{Memory, Numbers, Octets};
+use crate::lists::{Numbers, Octets};
 use crate::traits::{Failed, Sink, SinkFault, Source};
 use std::alloc::Global;
 use std::marker::Model;
@@ -218,10 +218,8 @@ impl Sink for MemSink {
             self.faults = self.faults.saturating_add(1);
             return Err(SinkFault::Failed);
         }
-        match self.bytes.extend(piece) {
-            Ok(()) => Ok(piece.len()),
-            Err(Memory) => Err(SinkFault::Memory),
-        }
+        self.bytes.extend(piece)?;
+        Ok(piece.len())
     }
 }
 
@@ -268,9 +266,7 @@ impl Sink for SureSink {
         ensures whole { IfOk result (λ count. count ≡ length piece.now) }
         ensures sure { IfErr result (λ fault. fault ≡ SinkFault.Memory) }
     {
-        match self.bytes.extend(piece) {
-            Ok(()) => Ok(piece.len()),
-            Err(Memory) => Err(SinkFault::Memory),
-        }
+        self.bytes.extend(piece)?;
+        Ok(piece.len())
     }
 }

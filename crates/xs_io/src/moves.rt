@@ -3,8 +3,8 @@ ghost use Rattle.std.specs.Prelude.{◌≡◌, ◌≢◌, ◌<◌, ◌≤◌, �
 ghost use Rattle.std.specs.Io.KnownBytes.{Appends, Consumes, IsAtEnd};
 ghost use Rattle.xs_io.specs.Causes.{HasSinkCause, HasTakeCause};
 
-use crate::lists::{Memory, Octets};
-use crate::traits::{Failed, Sink, SinkFault, Source, TakeFault};
+use crate::lists::Octets;
+use crate::traits::{Sink, SinkFault, Source, TakeFault};
 use std::alloc::Global;
 
 const CHUNK: usize = 8192;
@@ -41,15 +41,11 @@ pub fn take_exact<S: Source>(
     let mut buffer = [0; CHUNK];
     'taking: while list.len() < want {
         let room = (want - list.len()).min(CHUNK);
-        let count = match source.take(&mut buffer[..room]) {
-            Ok(0) => break,
-            Ok(count) => count,
-            Err(Failed) => return Err(TakeFault::Failed),
-        };
-        match list.extend(&buffer[..count]) {
-            Ok(()) => {}
-            Err(Memory) => return Err(TakeFault::Memory),
+        let count = source.take(&mut buffer[..room])?;
+        if count == 0 {
+            break;
         }
+        list.extend(&buffer[..count])?;
     }
     Ok(list)
 }
@@ -70,18 +66,14 @@ pub fn take_all<S: Source>(alloc: Global, source: &mut S, limit: u64) -> Result<
     let mut spare = limit;
     'taking: loop {
         let room = spare.min(CHUNK as u64 - 1) as usize + 1;
-        let count = match source.take(&mut buffer[..room]) {
-            Ok(0) => return Ok(list),
-            Ok(count) => count,
-            Err(Failed) => return Err(TakeFault::Failed),
-        };
+        let count = source.take(&mut buffer[..room])?;
+        if count == 0 {
+            return Ok(list);
+        }
         if count as u64 > spare {
             return Err(TakeFault::Limit);
         }
-        match list.extend(&buffer[..count]) {
-            Ok(()) => {}
-            Err(Memory) => return Err(TakeFault::Memory),
-        }
+        list.extend(&buffer[..count])?;
         spare -= count as u64;
     }
 }

@@ -1,13 +1,14 @@
-// Where bytes come from and where they go to, each with a count of its faults, and what is filed by lane and slot.
-ghost use Rattle.std.specs.Prelude.{◌≡◌, ◌<◌, ◌≤◌, ℕ, List, Bool, length, Option, IfOk};
+// Where bytes come from and where they go to, each with a count of its faults.
+ghost use Rattle.std.specs.Prelude.{◌≡◌, ◌<◌, ◌≤◌, ℕ, List, length, Option, IfOk};
 ghost use Rattle.std.specs.Io.{ReadsAtMost};
 ghost use Rattle.std.specs.Io.KnownBytes.{ReadConsumes, WriteAppends};
 ghost use Rattle.xs_io.specs.Causes.{HasCause, HasSinkCause};
 
+use crate::lists::Memory;
 use thiserror::Error;
 
 /// The device failed.
-#[derive(Clone, Copy, Debug, PartialEq, Eq)]
+#[derive(Clone, Copy, Debug)]
 pub struct Failed;
 
 /// Why a sink took nothing.
@@ -28,6 +29,36 @@ pub enum TakeFault {
     Limit,
     #[error("out of memory")]
     Memory,
+}
+
+impl From<Memory> for SinkFault {
+    ghost use Rattle.xs_io.specs.declared.traits.SinkFault.TheVariants.{Memory};
+
+    ghost from_gives = { λ _ fault. fault ≡ Memory };
+
+    fn from(_memory: Memory) -> SinkFault {
+        SinkFault::Memory
+    }
+}
+
+impl From<Memory> for TakeFault {
+    ghost use Rattle.xs_io.specs.declared.traits.TakeFault.TheVariants.{Memory};
+
+    ghost from_gives = { λ _ fault. fault ≡ Memory };
+
+    fn from(_memory: Memory) -> TakeFault {
+        TakeFault::Memory
+    }
+}
+
+impl From<Failed> for TakeFault {
+    ghost use Rattle.xs_io.specs.declared.traits.TakeFault.TheVariants.{Failed};
+
+    ghost from_gives = { λ _ fault. fault ≡ Failed };
+
+    fn from(_failed: Failed) -> TakeFault {
+        TakeFault::Failed
+    }
 }
 
 /// Where bytes come from.
@@ -60,23 +91,4 @@ pub trait Sink {
         ensures bound { IfOk result (λ count. (0 < count) × (count ≤ length piece.now)) }
         ensures bytes { WriteAppends (held self.old) (held self.new) result piece.now }
         ensures cause { HasSinkCause (faults self.old) (faults self.new) result };
-}
-
-/// A value that has a slot in a lane. Where it closes, its lane has no slot past it.
-pub trait Placed {
-    // What the three calls answer.
-    ghost lane_of: { Self → ℕ };
-
-    ghost slot_of: { Self → ℕ };
-
-    ghost closes_of: { Self → Bool };
-
-    fn lane(&self) -> u32
-        ensures { result ≡ lane_of self.now };
-
-    fn slot(&self) -> u32
-        ensures { result ≡ slot_of self.now };
-
-    fn closes(&self) -> bool
-        ensures { result ≡ closes_of self.now };
 }

@@ -1,5 +1,5 @@
 use Rattle.std.proofs.Common.{◌≡◌, subst, List, ℕ, Result}
-use Rattle.xs_params.specs.Picture.{raw_size, picture_of}
+use Rattle.xs_params.specs.Picture.{raw_size, picture_of_raw}
 use Rattle.xs_rate.specs.Encoding.{encoding_of}
 use Rattle.xs_cli.specs.declared.stop.Stop.{Stop}
 use Rattle.xs_cli.specs.Answer.{codestream_of}
@@ -11,7 +11,7 @@ pub returns-in-Ok : goal.returns-in-Ok
 returns-in-Ok g c =
     let size : c.raw_size-size.result ≡ raw_size c.args.settings.now.shape = cc in
     let s = c.args.settings.now in
-    let given = subst (λ (bytes : List ℕ). IsUnlessMemory (λ (r : Result (List ℕ) Stop). codestream_of (encoding_of s (picture_of s.shape bytes)) ≡ r) c.codestream.result) c.as_slice.ensures.items c.codestream.ensures in
+    let given = subst (λ (bytes : List ℕ). IsUnlessMemory (λ (r : Result (List ℕ) Stop). codestream_of (encoding_of s (picture_of_raw s.shape bytes)) ≡ r) c.codestream.result) c.as_slice.ensures.items c.codestream.ensures in
     encoded_as_far s _ c.raw_size-size.result c.in-Ok.bytes c.codestream.result size c.read.ensures.taken c.in-Ok.ensures.reading given
 
 pub returns-in-Err : goal.returns-in-Err
