@@ -1,8 +1,8 @@
 -- Laws of bits beside those of the lists.
 use Rattle.std.proofs.Common.{◌≡◌, ℕ, zero, suc, ◌+◌, ◌-◌, ◌*◌, ◌/◌, ◌%◌, ◌^◌, ◌<◌, ◌≤◌, List, [], ◌∷◌, ◌++◌, length, replicate, get_or, refl, sym, ap, subst, ◌∙◌, arith, append_assoc, append-nil, length-append}
-use Rattle.std.specs.Int.{w32, to_be_bytes}
+use Rattle.std.specs.Int.{w64, to_be_bytes}
 use Rattle.std.proofs.Math.Nat.{mul_comm, pow-suc}
-use Rattle.std.proofs.lemmas.Nat.{pow_pos, pow-add, mul-add-lt}
+use Rattle.std.proofs.lemmas.Nat.{pow_pos, pow-add, mul-add-lt, shr_below}
 use Rattle.std.proofs.lemmas.List.{replicate_more, replicate-append-replicate}
 use Rattle.xs_lists.specs.Bits.{bits_of, bits_of_bytes}
 use Rattle.xs_lists.specs.Packing.{AreBytes}
@@ -51,11 +51,13 @@ bits_of_unary n =
     bits_of_last n (2 ^ (n + 1) - 2) (2 ^ n - 1) 0 half last ∙ ap (λ l. l ++ (0 ∷ [])) (bits_of_ones n)
 
 -- the bytes of a word, the highest first, have its bits
-pub word_bytes : (word : ℕ) → bits_of_bytes (to_be_bytes w32 word) ≡ bits_of 32 word
+pub word_bytes : (word : ℕ) → bits_of_bytes (to_be_bytes w64 word) ≡ bits_of 64 word
 word_bytes word =
     let byte : (n : ℕ) → bits_of 8 (n % 256) ≡ bits_of 8 n = λ n. bits_mod 8 n in
-    rw (byte (word / 16777216), byte (word / 65536), byte (word / 256), byte word, append-nil (bits_of 8 word))
-    (sym (bits_split 8 24 word ∙ ap (λ l. bits_of 8 (word / 2 ^ 24) ++ l) (bits_split 8 16 word ∙ ap (λ l. bits_of 8 (word / 2 ^ 16) ++ l) (bits_split 8 8 word))))
+    rw (byte (word / 2 ^ 56), byte (word / 2 ^ 48), byte (word / 2 ^ 40), byte (word / 2 ^ 32), byte (word / 2 ^ 24), byte (word / 2 ^ 16), byte (word / 2 ^ 8), byte word, append-nil (bits_of 8 word))
+    (sym (bits_split 8 56 word ∙ ap (λ l. bits_of 8 (word / 2 ^ 56) ++ l) (bits_split 8 48 word ∙ ap (λ l. bits_of 8 (word / 2 ^ 48) ++ l) (bits_split 8 40 word
+    ∙ ap (λ l. bits_of 8 (word / 2 ^ 40) ++ l) (bits_split 8 32 word ∙ ap (λ l. bits_of 8 (word / 2 ^ 32) ++ l) (bits_split 8 24 word
+    ∙ ap (λ l. bits_of 8 (word / 2 ^ 24) ++ l) (bits_split 8 16 word ∙ ap (λ l. bits_of 8 (word / 2 ^ 16) ++ l) (bits_split 8 8 word))))))))
 
 -- how many bits whole bytes and some more bits are
 pub length-written : (bytes : List ℕ) (count partial : ℕ) → length (bits_of_bytes bytes ++ bits_of count partial) ≡ 8 * length bytes + count
@@ -73,15 +75,24 @@ put_bits bytes count partial width value number h e =
     ap (λ k. bits_of_bytes bytes ++ bits_of (count + width) k) e ∙ ap (λ l. bits_of_bytes bytes ++ l) (bits_cat count width partial value h)
     ∙ sym (append_assoc (bits_of_bytes bytes) (bits_of count partial) (bits_of width value))
 
--- the high bits of a number move to the end of other bits
-pub high_moves : (bits more : List ℕ) (m n number word low : ℕ) → more ≡ bits ++ bits_of m word → word ≡ number / 2 ^ n → low ≡ number % 2 ^ n
-    → more ++ bits_of n low ≡ bits ++ bits_of (m + n) number
-high_moves bits more m n number word low added high rest =
-    ap (λ l. l ++ bits_of n low) added ∙ append_assoc bits (bits_of m word) (bits_of n low)
-    ∙ ap (λ k. bits ++ (bits_of m k ++ bits_of n low)) high ∙ ap (λ k. bits ++ (bits_of m (number / 2 ^ n) ++ bits_of n k)) rest
-    ∙ ap (λ l. bits ++ (bits_of m (number / 2 ^ n) ++ l)) (bits_mod n number) ∙ ap (λ l. bits ++ l) (sym (bits_split m n number))
+-- the bits that fill up a word move to the end of other bits, and the rest of the number stays
+pub word_moves : (bits more : List ℕ) (count width partial value word low : ℕ) → count ≤ 64 → 64 ≤ count + width → value < 2 ^ width
+    → word ≡ partial * 2 ^ (64 - count) + value / 2 ^ (count + width - 64) → low ≡ value % 2 ^ (count + width - 64) → more ≡ bits ++ bits_of 64 word
+    → more ++ bits_of (count + width - 64) low ≡ bits ++ bits_of count partial ++ bits_of width value
+word_moves bits more count width partial value word low few full small high rest added =
+    let over = count + width - 64 in
+    let gap : 64 ≡ count + (64 - count) = omega arith in
+    let sum : width ≡ (64 - count) + (count + width - 64) = omega arith in
+    let top : value / 2 ^ over < 2 ^ (64 - count) = shr_below value (64 - count) over (subst (λ k. value < 2 ^ k) sum small) in
+    let first : bits_of 64 word ≡ bits_of count partial ++ bits_of (64 - count) (value / 2 ^ over) =
+    ap (bits_of 64) high ∙ ap (λ k. bits_of k (partial * 2 ^ (64 - count) + value / 2 ^ over)) gap ∙ bits_cat count (64 - count) partial (value / 2 ^ over) top in
+    let whole : bits_of (64 - count) (value / 2 ^ over) ++ bits_of over low ≡ bits_of width value =
+    ap (λ l. bits_of (64 - count) (value / 2 ^ over) ++ l) (ap (bits_of over) rest ∙ bits_mod over value) ∙ sym (bits_split (64 - count) over value) ∙ ap (λ k. bits_of k value) (sym sum) in
+    ap (λ l. l ++ bits_of over low) (added ∙ ap (λ l. bits ++ l) first) ∙ append_assoc bits (bits_of count partial ++ bits_of (64 - count) (value / 2 ^ over)) (bits_of over low)
+    ∙ ap (λ l. bits ++ l) (append_assoc (bits_of count partial) (bits_of (64 - count) (value / 2 ^ over)) (bits_of over low) ∙ ap (λ l. bits_of count partial ++ l) whole)
+    ∙ sym (append_assoc bits (bits_of count partial) (bits_of width value))
 
--- the same with a byte, of a number of which only the low bits count
+-- a byte moves to the end of other bits, of a number of which only the low bits count
 pub byte_moves : (bits more : List ℕ) (left number byte : ℕ) → 8 ≤ left → more ≡ bits ++ bits_of 8 byte → byte ≡ number / 2 ^ (left - 8) % 256
     → more ++ bits_of (left - 8) number ≡ bits ++ bits_of left number
 byte_moves bits more left number byte enough added is =

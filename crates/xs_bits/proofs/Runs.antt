@@ -1,11 +1,12 @@
 -- Laws of ones that stand in a row.
-use Rattle.std.proofs.Common.{◌≡◌, ℕ, zero, suc, ◌+◌, ◌-◌, ◌*◌, ◌/◌, ◌%◌, ◌^◌, ◌<◌, ◌≤◌, List, ◌∷◌, ◌++◌, length, replicate, take, drop, get_or, sym, ap, ◌∙◌, arith, inl, inr}
+use Rattle.std.proofs.Common.{◌≡◌, ℕ, zero, suc, ◌+◌, ◌-◌, ◌*◌, ◌/◌, ◌%◌, ◌^◌, ◌<◌, ◌≤◌, List, ◌∷◌, ◌++◌, length, replicate, take, drop, get_or, sym, ap, ◌∙◌, arith, append-nil, inl, inr}
 use Rattle.std.proofs.Math.Nat.{add-mul, pow-suc}
+use Rattle.std.proofs.Math.Pow.{pow_mono}
 use Rattle.std.proofs.lemmas.Bool.{cases_lt}
 use Rattle.std.proofs.lemmas.Nat.{pow_pos, pow-add, shr_high, mod_low}
-use Rattle.std.proofs.lemmas.List.{take-append-drop, drop-drop, drop_more, length-take-le, length-drop, length-replicate, get_or-take, get_or-drop, get_or-replicate, get_or_append_left, get_or-append_right, get_or_past, ext_get_or}
+use Rattle.std.proofs.lemmas.List.{take-append-drop, drop-drop, drop_more, drop_all, length-take-le, length-drop, length-replicate, get_or-take, get_or-drop, get_or-replicate, get_or_append_left, get_or-append_right, get_or_past, ext_get_or}
 use Rattle.xs_lists.specs.Bits.{bits_of}
-use Rattle.xs_lists.proofs.Bits.{bits_split, bits_mod}
+use Rattle.xs_lists.proofs.Bits.{length-bits_of, bits_split, bits_mod, bits_cat}
 use Rattle.xs_bits.proofs.Laws.{bits_of_zero, bits_of_ones}
 
 -- a number that is so close to the highest of n bits begins with ones
@@ -52,6 +53,20 @@ run_zero n m run word sum below close far inside =
     ap (λ l. get_or l run 0) (high_bits n m run word sum below close) ∙ get_or-append_right (replicate run 1) (bits_of m word) run run 0 (length-replicate run 1) same
     ∙ ap (λ k. get_or (bits_of m word) k 0) at ∙ first
 
+-- a number that ends in zeros does not begin with more ones than stand before them
+pub run_within : (m rest : ℕ) → 127 ≤ rest → rest < 2 ^ m → 7 ≤ m
+run_within m rest most close = elim (cases_lt m 7) [
+  | inl few ↦ let small : 2 ^ m ≤ 2 ^ 6 = pow_mono {i = m} {j = 6} (omega (arith, few)) in absurd (omega (arith, most, close, small))
+  | inr enough ↦ enough
+]
+
+-- the first 57 bits of a number that ends in seven zeros
+pub zeros_after : (window k : ℕ) → k < 57 → get_or (bits_of 64 (window * 2 ^ 7)) k 0 ≡ get_or (bits_of 57 window) k 0
+zeros_after window k inside =
+    let whole : window * 2 ^ 7 ≡ window * 2 ^ 7 + 0 = omega arith in
+    let short : k < length (bits_of 57 window) = omega (arith, length-bits_of 57 window, inside) in
+    ap (λ l. get_or l k 0) (ap (bits_of 64) whole ∙ bits_cat 57 7 window 0 (omega arith)) ∙ get_or_append_left (bits_of 57 window) (bits_of 7 0) 0 k short
+
 -- one run after another
 pub more_ones : (bits : List ℕ) (place count run : ℕ) → ((k : ℕ) → k < count → get_or bits (place + k) 0 ≡ 1) → ((k : ℕ) → k < run → get_or bits (place + count + k) 0 ≡ 1)
     → (k : ℕ) → k < count + run → get_or bits (place + k) 0 ≡ 1
@@ -85,6 +100,11 @@ ones_listed bits place count within ones =
     get_or-take count (drop place bits) i 0 below ∙ get_or-drop place bits i 0 ∙ ones i below ∙ sym (get_or-replicate count i 1 0 below)) in
     sym (take-append-drop count (drop place bits)) ∙ ap (λ l. l ++ drop count (drop place bits)) front ∙ ap (λ l. replicate count 1 ++ l) (drop-drop count place bits)
 
+-- ones up to the end
+pub ones_to_end : (bits : List ℕ) (place count : ℕ) → place + count ≡ length bits → ((k : ℕ) → k < count → get_or bits (place + k) 0 ≡ 1) → drop place bits ≡ replicate count 1
+ones_to_end bits place count all ones =
+    ones_listed bits place count (omega (arith, all)) ones ∙ ap (λ l. replicate count 1 ++ l) (drop_all (place + count) bits (omega (arith, all))) ∙ append-nil (replicate count 1)
+
 -- ones and the zero after them
 pub ones_ended : (bits : List ℕ) (place count : ℕ) → place + count < length bits → ((k : ℕ) → k < count → get_or bits (place + k) 0 ≡ 1) → get_or bits (place + count) 0 ≡ 0
     → drop place bits ≡ replicate count 1 ++ (0 ∷ drop (place + (count + 1)) bits)
@@ -93,3 +113,11 @@ ones_ended bits place count within ones ended =
     let next : place + count + 1 ≡ place + (count + 1) = omega arith in
     ones_listed bits place count most ones
     ∙ ap (λ l. replicate count 1 ++ l) (drop_more bits (place + count) 0 within ∙ ap (λ b. b ∷ drop (place + count + 1) bits) ended ∙ ap (λ i. 0 ∷ drop i bits) next)
+
+-- the same at the front
+pub ones_first : (bits : List ℕ) (count : ℕ) → count + 1 ≤ length bits → ((k : ℕ) → k < count → get_or bits k 0 ≡ 1) → get_or bits count 0 ≡ 0 → bits ≡ replicate count 1 ++ (0 ∷ drop (count + 1) bits)
+ones_first bits count enough ones ended =
+    let here : 0 + count ≡ count = omega arith in
+    let next : 0 + (count + 1) ≡ count + 1 = omega arith in
+    ones_ended bits 0 count (omega (arith, enough)) (λ k inside. (let at : 0 + k ≡ k = omega arith in ap (λ i. get_or bits i 0) at ∙ ones k inside)) (ap (λ i. get_or bits i 0) here ∙ ended)
+    ∙ ap (λ i. replicate count 1 ++ 0 ∷ drop i bits) next

@@ -1,12 +1,13 @@
 -- Laws of the bits around a place.
-use Rattle.std.proofs.Common.{◌≡◌, ℕ, ◌+◌, ◌-◌, ◌*◌, ◌/◌, ◌%◌, ◌^◌, ◌<◌, ◌≤◌, List, ◌++◌, length, replicate, take, drop, get_or, refl, sym, ap, ◌∙◌, arith, inl, inr, append_assoc, append-nil, length-append}
-use Rattle.std.specs.Int.{w64, to_be_bytes, from_be_bytes}
+use Rattle.std.proofs.Common.{◌≡◌, ℕ, ◌+◌, ◌-◌, ◌*◌, ◌/◌, ◌%◌, ◌^◌, ◌<◌, ◌≤◌, List, ◌++◌, length, replicate, take, drop, get_or, refl, sym, ap, ◌∙◌, arith, inl, inr, append_assoc, length-append}
+use Rattle.std.specs.Int.{w64, from_be_bytes}
 use Rattle.std.proofs.lemmas.Bool.{cases_lt}
 use Rattle.std.proofs.lemmas.Nat.{be_bytes_8}
-use Rattle.std.proofs.lemmas.List.{take-append-drop, take_at, take-take, take-append-le, drop_at, drop-drop, drop-append-le, length-take-le, length-drop, length-replicate, replicate-append-replicate, get_or-take, get_or-drop, get_or-replicate, get_or_append_left, get_or-append_right, get_or_past}
+use Rattle.std.proofs.lemmas.List.{take-append-drop, take_at, take-take, take-append-le, drop_at, drop-append-le, length-take-le, length-drop, length-replicate, replicate-append-replicate, get_or-take, get_or-drop, get_or-replicate, get_or_append_left, get_or-append_right, get_or_past}
 use Rattle.std.proofs.lemmas.List.Concat.{flat_map-append}
 use Rattle.xs_lists.specs.Bits.{bits_of, bits_of_bytes}
 use Rattle.xs_lists.proofs.Bits.{length-bits_of, length-bits_of_bytes, bits_split, bits_mod}
+use Rattle.xs_bits.proofs.Laws.{word_bytes}
 
 -- how many bits are left
 pub length-left : (bytes : List ℕ) (place : ℕ) → length (drop place (bits_of_bytes bytes)) ≡ 8 * length bytes - place
@@ -36,18 +37,9 @@ long_enough bytes behind at n there =
     let enough : n ≤ length (drop at bytes) = omega (arith, there, length-drop at bytes) in
     sym (ap (take n) (drop-append-le at bytes behind inside) ∙ take-append-le n (drop at bytes) behind enough)
 
--- the bytes of a number of eight bytes, the highest first, have its bits
-long_bytes : (number : ℕ) → bits_of_bytes (to_be_bytes w64 number) ≡ bits_of 64 number
-long_bytes number =
-    let byte : (n : ℕ) → bits_of 8 (n % 256) ≡ bits_of 8 n = λ n. bits_mod 8 n in
-    rw (byte (number / 2 ^ 56), byte (number / 2 ^ 48), byte (number / 2 ^ 40), byte (number / 2 ^ 32), byte (number / 2 ^ 24), byte (number / 2 ^ 16), byte (number / 2 ^ 8), byte number, append-nil (bits_of 8 number))
-    (sym (bits_split 8 56 number ∙ ap (λ l. bits_of 8 (number / 2 ^ 56) ++ l) (bits_split 8 48 number ∙ ap (λ l. bits_of 8 (number / 2 ^ 48) ++ l) (bits_split 8 40 number
-    ∙ ap (λ l. bits_of 8 (number / 2 ^ 40) ++ l) (bits_split 8 32 number ∙ ap (λ l. bits_of 8 (number / 2 ^ 32) ++ l) (bits_split 8 24 number
-    ∙ ap (λ l. bits_of 8 (number / 2 ^ 24) ++ l) (bits_split 8 16 number ∙ ap (λ l. bits_of 8 (number / 2 ^ 16) ++ l) (bits_split 8 8 number))))))))
-
--- and the number of eight bytes has theirs
+-- the number of eight bytes has their bits
 pub number_bits : (bytes : List ℕ) (number : ℕ) → length bytes ≡ 8 → ((i : ℕ) → get_or bytes i 0 < 256) → number ≡ from_be_bytes w64 bytes → bits_of 64 number ≡ bits_of_bytes bytes
-number_bits bytes number size small is = sym (long_bytes number) ∙ ap bits_of_bytes (be_bytes_8 bytes number size small is)
+number_bits bytes number size small is = sym (word_bytes number) ∙ ap bits_of_bytes (be_bytes_8 bytes number size small is)
 
 -- the part of a list that stands between two others
 middle : (before part after : List ℕ) (m n : ℕ) → length before ≡ m → length part ≡ n → take n (drop m (before ++ (part ++ after))) ≡ part
@@ -76,36 +68,50 @@ window_bits front window rest place width low number total after spelled =
 parts : (bytes : List ℕ) (f k : ℕ) → bytes ≡ take f bytes ++ (take k (drop f bytes) ++ drop k (drop f bytes))
 parts bytes f k = sym (ap (λ l. take f bytes ++ l) (take-append-drop k (drop f bytes)) ∙ take-append-drop f bytes)
 
--- a word inside eight bytes
-pub word_bits : (bytes chunk : List ℕ) (place number word : ℕ) → place / 8 + 8 ≤ length bytes → chunk ≡ take 8 (drop (place / 8) bytes) → bits_of 64 number ≡ bits_of_bytes chunk
-    → word ≡ number / 2 ^ (32 - place % 8) % 2 ^ 32 → bits_of 32 word ≡ take 32 (drop place (bits_of_bytes bytes))
-word_bits bytes chunk place number word there is spelled picked =
-    let f = place / 8 in
-    let front : length (take f bytes) ≡ f = length-take-le f bytes (omega (arith, there)) in
-    let size : length chunk ≡ 8 = ap length is ∙ length-take-le 8 (drop f bytes) (omega (arith, there, length-drop f bytes)) in
-    let total : place + 32 + (32 - place % 8) ≡ 8 * (length (take f bytes) + length chunk) = omega (arith, front, size) in
-    let after : 8 * length (take f bytes) ≤ place = omega (arith, front) in
-    let eight : 8 * length chunk ≡ 64 = omega (arith, size) in
-    let cut : bytes ≡ take f bytes ++ (chunk ++ drop 8 (drop f bytes)) = parts bytes f 8 ∙ ap (λ l. take f bytes ++ (l ++ drop 8 (drop f bytes))) (sym is) in
-    ap (bits_of 32) picked ∙ window_bits (take f bytes) chunk (drop 8 (drop f bytes)) place 32 (32 - place % 8) number total after (ap (λ k. bits_of k number) eight ∙ spelled)
-    ∙ ap (λ l. take 32 (drop place (bits_of_bytes l))) (sym cut)
+zero_bytes : bits_of_bytes (replicate 8 0) ≡ replicate 64 0
+unfolding bits_of
+zero_bytes = refl
 
--- what a word's highest bits are of the bits that are left
-pub taken : (bytes : List ℕ) (place width word value : ℕ) → width ≤ 32 → place + width ≤ 8 * length bytes
-    → bits_of 32 word ≡ take 32 (drop place (bits_of_bytes (bytes ++ replicate 8 0))) → value ≡ word / 2 ^ (32 - width)
-    → drop place (bits_of_bytes bytes) ≡ bits_of width value ++ drop (place + width) (bits_of_bytes bytes)
-taken bytes place width word value narrow there seen is =
+-- the bits of bytes behind which there are zeros
+behind_left : (bytes : List ℕ) (place : ℕ) → place ≤ 8 * length bytes
+    → take 57 (drop place (bits_of_bytes (bytes ++ replicate 8 0))) ≡ take 57 (drop place (bits_of_bytes bytes) ++ replicate 57 0)
+behind_left bytes place there =
     let bits = bits_of_bytes bytes in
-    let behind = bits_of_bytes (replicate 8 0) in
-    let sum : 32 ≡ width + (32 - width) = omega (arith, narrow) in
-    let cut : bits_of 32 word ≡ bits_of width value ++ bits_of (32 - width) word = ap (λ k. bits_of k word) sum ∙ bits_split width (32 - width) word ∙ ap (λ v. bits_of width v ++ bits_of (32 - width) word) (sym is) in
-    let size : length bits ≡ 8 * length bytes = length-bits_of_bytes bytes in
-    let within : place ≤ length bits = omega (arith, there, size) in
-    let enough : width ≤ length (drop place bits) = omega (arith, there, size, length-drop place bits) in
-    let front : bits_of width value ≡ take width (drop place bits) =
-    sym (take_at (bits_of width value) (bits_of (32 - width) word) width (length-bits_of width value)) ∙ ap (take width) (sym cut ∙ seen) ∙ take-take width 32 (drop place (bits_of_bytes (bytes ++ replicate 8 0))) narrow
-    ∙ ap (λ l. take width (drop place l)) (flat_map-append (bits_of 8) bytes (replicate 8 0)) ∙ ap (take width) (drop-append-le place bits behind within) ∙ take-append-le width (drop place bits) behind enough in
-    sym (take-append-drop width (drop place bits)) ∙ ap (λ l. l ++ drop width (drop place bits)) (sym front) ∙ ap (λ l. bits_of width value ++ l) (drop-drop width place bits)
+    let rest = drop place bits in
+    let zeros : List ℕ = replicate 57 0 in
+    let within : place ≤ length bits = omega (arith, there, length-bits_of_bytes bytes) in
+    let enough : 57 ≤ length (rest ++ zeros) = omega (arith, length-append rest zeros, length-replicate {A = ℕ} 57 0) in
+    let cut : rest ++ replicate 64 0 ≡ (rest ++ zeros) ++ replicate 7 0 = sym (append_assoc rest zeros (replicate 7 0)) in
+    ap (λ l. take 57 (drop place l)) (flat_map-append (bits_of 8) bytes (replicate 8 0) ∙ ap (λ l. bits ++ l) zero_bytes) ∙ ap (take 57) (drop-append-le place bits (replicate 64 0) within ∙ cut)
+    ∙ take-append-le 57 (rest ++ zeros) (replicate 7 0) enough
+
+-- a window inside eight bytes
+pub window_inside : (bytes chunk : List ℕ) (place number window : ℕ) → place ≤ 8 * length bytes → chunk ≡ take 8 (drop (place / 8) (bytes ++ replicate 8 0)) → bits_of 64 number ≡ bits_of_bytes chunk
+    → window ≡ number / 2 ^ (7 - place % 8) % 2 ^ 57 → bits_of 57 window ≡ take 57 (drop place (bits_of_bytes bytes) ++ replicate 57 0)
+window_inside bytes chunk place number window inside is spelled picked =
+    let padded = bytes ++ replicate {A = ℕ} 8 0 in
+    let f = place / 8 in
+    let there : f + 8 ≤ length padded = omega (arith, length-append bytes (replicate {A = ℕ} 8 0), inside) in
+    let front : length (take f padded) ≡ f = length-take-le f padded (omega (arith, there)) in
+    let size : length chunk ≡ 8 = ap length is ∙ length-take-le 8 (drop f padded) (omega (arith, there, length-drop f padded)) in
+    let total : place + 57 + (7 - place % 8) ≡ 8 * (length (take f padded) + length chunk) = omega (arith, front, size) in
+    let after : 8 * length (take f padded) ≤ place = omega (arith, front) in
+    let eight : 8 * length chunk ≡ 64 = omega (arith, size) in
+    let cut : padded ≡ take f padded ++ (chunk ++ drop 8 (drop f padded)) = parts padded f 8 ∙ ap (λ l. take f padded ++ (l ++ drop 8 (drop f padded))) (sym is) in
+    ap (bits_of 57) picked ∙ window_bits (take f padded) chunk (drop 8 (drop f padded)) place 57 (7 - place % 8) number total after (ap (λ k. bits_of k number) eight ∙ spelled)
+    ∙ ap (λ l. take 57 (drop place (bits_of_bytes l))) (sym cut) ∙ behind_left bytes place inside
+
+-- what a window's highest bits are of the bits that are left
+pub taken : (bits : List ℕ) (width window value : ℕ) → width ≤ 57 → width ≤ length bits → bits_of 57 window ≡ take 57 (bits ++ replicate 57 0) → value ≡ window / 2 ^ (57 - width)
+    → bits ≡ bits_of width value ++ drop width bits
+taken bits width window value narrow enough seen is =
+    let zeros : List ℕ = replicate 57 0 in
+    let sum : 57 ≡ width + (57 - width) = omega (arith, narrow) in
+    let cut : bits_of 57 window ≡ bits_of width value ++ bits_of (57 - width) window = ap (λ k. bits_of k window) sum ∙ bits_split width (57 - width) window ∙ ap (λ v. bits_of width v ++ bits_of (57 - width) window) (sym is) in
+    let front : bits_of width value ≡ take width bits =
+    sym (take_at (bits_of width value) (bits_of (57 - width) window) width (length-bits_of width value)) ∙ ap (take width) (sym cut ∙ seen) ∙ take-take width 57 (bits ++ zeros) narrow
+    ∙ take-append-le width bits zeros enough in
+    sym (take-append-drop width bits) ∙ ap (λ l. l ++ drop width bits) (sym front)
 
 -- zeros behind a list change no item, where 0 stands for what is past the end
 zeros_behind : (items : List ℕ) (n i : ℕ) → get_or (items ++ replicate n 0) i 0 ≡ get_or items i 0
@@ -120,13 +126,10 @@ zeros_behind items n i = elim (cases_lt i (length items)) [
       | inr past ↦ let short : length (replicate {A = ℕ} n 0) ≤ j = omega (arith, past, length-replicate {A = ℕ} n 0) in get_or_past (replicate n 0) j 0 short
     ]
 
-zero_bytes : bits_of_bytes (replicate 8 0) ≡ replicate 64 0
-unfolding bits_of
-zero_bytes = refl
+-- the bits of a window, one by one
+pub window_of_left : (bits : List ℕ) (window : ℕ) → bits_of 57 window ≡ take 57 (bits ++ replicate 57 0) → (k : ℕ) → k < 57 → get_or (bits_of 57 window) k 0 ≡ get_or bits k 0
+window_of_left bits window seen k inside = ap (λ l. get_or l k 0) seen ∙ get_or-take 57 (bits ++ replicate 57 0) k 0 inside ∙ zeros_behind bits 57 k
 
--- the bits of a word, one by one
-pub word_index : (bytes : List ℕ) (place word k : ℕ) → bits_of 32 word ≡ take 32 (drop place (bits_of_bytes (bytes ++ replicate 8 0))) → k < 32
-    → get_or (bits_of 32 word) k 0 ≡ get_or (bits_of_bytes bytes) (place + k) 0
-word_index bytes place word k seen inside =
-    ap (λ l. get_or l k 0) seen ∙ get_or-take 32 (drop place (bits_of_bytes (bytes ++ replicate 8 0))) k 0 inside ∙ get_or-drop place (bits_of_bytes (bytes ++ replicate 8 0)) k 0
-    ∙ ap (λ l. get_or l (place + k) 0) (flat_map-append (bits_of 8) bytes (replicate 8 0) ∙ ap (λ l. bits_of_bytes bytes ++ l) zero_bytes) ∙ zeros_behind (bits_of_bytes bytes) 64 (place + k)
+pub window_index : (bytes : List ℕ) (place window k : ℕ) → bits_of 57 window ≡ take 57 (drop place (bits_of_bytes bytes) ++ replicate 57 0) → k < 57
+    → get_or (bits_of 57 window) k 0 ≡ get_or (bits_of_bytes bytes) (place + k) 0
+window_index bytes place window k seen inside = window_of_left (drop place (bits_of_bytes bytes)) window seen k inside ∙ get_or-drop place (bits_of_bytes bytes) k 0

@@ -10,6 +10,3 @@ mod writer;
 pub use counts::Counts;
 pub use reader::{BitReader, Ended};
 pub use writer::BitWriter;
-
-#[cfg(test)]
-mod tests;

@@ -4,12 +4,12 @@ ghost use Rattle.xs_lists.specs.Bits.{bits_of};
 
 // The number with these high bits over `width` low ones.
 pub fn join(high: u64, low: u64, width: u32) -> u64
-    requires width { width ≤ 32 }
-    requires high { high < 2 ^ 32 }
+    requires width { width ≤ 64 }
+    requires high { high * 2 ^ width < 2 ^ 64 }
     requires low { low < 2 ^ width }
     ensures { result ≡ high * 2 ^ width + low }
 {
-    (high << width) | low
+    high.wrapping_shl(width) | low
 }
 
 // The low bits of a number.
@@ -18,15 +18,6 @@ pub fn low_bits(number: u64, width: u32) -> u64
     ensures { result ≡ number % 2 ^ width }
 {
     number & ((1 << width) - 1)
-}
-
-// The 32 bits above the low ones, of a number that has no others.
-pub fn high_word(number: u64, width: u32) -> u32
-    requires width { width < 32 }
-    requires high { number < 2 ^ (32 + width) }
-    ensures { result ≡ number / 2 ^ width }
-{
-    (number >> width) as u32
 }
 
 // The byte above the low bits.
@@ -45,28 +36,20 @@ pub fn unary(ones: u32) -> u32
     ((2u64 << ones) - 2) as u32
 }
 
-// The word that begins so many bits after the highest bit of a number.
-pub fn word_after(number: u64, skipped: u32) -> u32
-    requires { skipped ≤ 32 }
-    ensures { result ≡ number / 2 ^ (32 - skipped) % 2 ^ 32 }
+// The 57 bits that begin so many bits after the highest bit of a number.
+pub fn bits_after(number: u64, skipped: u32) -> u64
+    requires { skipped ≤ 7 }
+    ensures { result ≡ number / 2 ^ (7 - skipped) % 2 ^ 57 }
 {
-    ((number >> (32 - skipped)) % (1 << 32)) as u32
+    number << skipped >> 7
 }
 
-// The highest bits of a word.
-pub fn top_bits(word: u32, width: u32) -> u32
-    requires { width ≤ 32 }
-    ensures value { result ≡ word / 2 ^ (32 - width) }
-    ensures below { result < 2 ^ width }
+// How many ones a number of 57 bits begins with.
+pub fn leading_run(window: u64) -> u32
+    requires { window < 2 ^ 57 }
+    ensures most { result ≤ 57 }
+    ensures ones { (k : ℕ) → k < result → slice_index (bits_of 57 window) k ≡ 1 }
+    ensures zero { result < 57 → slice_index (bits_of 57 window) result ≡ 0 }
 {
-    (u64::from(word) >> (32 - width)) as u32
-}
-
-// How many ones a word begins with.
-pub fn leading_run(word: u32) -> u32
-    ensures most { result ≤ 32 }
-    ensures ones { (k : ℕ) → k < result → slice_index (bits_of 32 word) k ≡ 1 }
-    ensures zero { result < 32 → slice_index (bits_of 32 word) result ≡ 0 }
-{
-    word.leading_ones()
+    (window << 7).leading_ones()
 }

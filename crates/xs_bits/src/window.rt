@@ -2,13 +2,13 @@
 ghost use Rattle.std.specs.Prelude.{◌≡◌, ◌+◌, ◌-◌, ◌*◌, ◌/◌, ◌%◌, ◌^◌, ◌<◌, ◌≤◌, [], ◌∷◌, ◌++◌, length, take, drop, replicate, slice_index, ℕ};
 ghost use Rattle.xs_lists.specs.Bits.{bits_of, bits_of_bytes};
 
-use crate::numbers::{leading_run, word_after};
+use crate::numbers::{bits_after, leading_run};
 
-// Bits of a word.
-const WORD: u32 = 32;
+// Bits that eight bytes have from any place in the first of them.
+pub const WINDOW: u32 = 57;
 
-// Bytes that are looked at for a word, wherever it begins.
-const AROUND: usize = 8;
+// Bytes that are looked at for a window, wherever it begins.
+pub const AROUND: usize = 8;
 
 // The first eight bytes of more.
 fn first_bytes(bytes: &[u8]) -> [u8; 8]
@@ -20,7 +20,7 @@ fn first_bytes(bytes: &[u8]) -> [u8; 8]
     ]
 }
 
-// Fewer than eight bytes, filled up with zeros. Only the last words of the bytes need it.
+// Fewer than eight bytes, filled up with zeros. Only the last windows of the bytes need it.
 #[cold]
 #[inline(never)]
 fn filled_bytes(bytes: &[u8]) -> [u8; 8]
@@ -51,16 +51,19 @@ fn number_at(bytes: &[u8], at: usize) -> u64
     }
 }
 
-// The word of the bits from a place on, with zeros past the end.
-pub fn word_at(bytes: &[u8], place: usize) -> u32
+// The 57 bits from a place on, with zeros past the end.
+pub fn window_at(bytes: &[u8], place: usize) -> u64
     requires few { length bytes.now < 2 ^ 28 }
     requires there { place ≤ 8 * length bytes.now }
-    ensures { bits_of 32 result ≡ take 32 (drop place (bits_of_bytes (bytes.now ++ replicate 8 0))) }
+    ensures bits { bits_of 57 result ≡ take 57 (drop place (bits_of_bytes bytes.now) ++ replicate 57 0) }
+    ensures small { result < 2 ^ 57 }
 {
-    word_after(number_at(bytes, place / 8), (place % 8) as u32)
+    bits_after(number_at(bytes, place / 8), (place % 8) as u32)
 }
 
-// How many ones stand from a place on, up to a zero or the end.
+// How many ones stand from a place on, up to a zero or the end. Only a long run, or one near the end, needs it.
+#[cold]
+#[inline(never)]
 pub fn ones_at(bytes: &[u8], place: usize) -> usize
     requires few { length bytes.now < 2 ^ 28 }
     requires there { place ≤ 8 * length bytes.now }
@@ -70,9 +73,9 @@ pub fn ones_at(bytes: &[u8], place: usize) -> usize
 {
     let mut count = 0;
     'counting: while place + count < bytes.len() * 8 {
-        let run = leading_run(word_at(bytes, place + count));
+        let run = leading_run(window_at(bytes, place + count));
         count += run as usize;
-        if run < WORD {
+        if run < WINDOW {
             return count;
         }
     }

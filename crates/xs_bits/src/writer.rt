@@ -3,7 +3,7 @@ ghost use Rattle.std.specs.Prelude.{◌≡◌, ◌+◌, ◌-◌, ◌*◌, ◌/�
 ghost use Rattle.xs_lists.specs.Packing.{AreBytes, missing_bits};
 ghost use Rattle.xs_lists.specs.Bits.{bits_of, bits_of_bytes};
 
-use crate::numbers::{byte_above, high_word, join, low_bits, unary};
+use crate::numbers::{byte_above, join, low_bits, unary};
 use std::alloc::Global;
 use std::marker::Model;
 use xs_io::{Memory, Octets};
@@ -19,7 +19,10 @@ pub struct BitWriter {
 }
 
 // Bits of a word. So many are moved to the bytes at once.
-const WORD: u32 = 32;
+const WORD: u32 = 64;
+
+// Ones that are put at once.
+const RUN: u32 = 32;
 
 // No writer has more bits than these.
 const MOST: usize = 1 << 60;
@@ -33,7 +36,7 @@ impl Model for BitWriter {
 
     ghost view = { λ s. record { bits = bits_of_bytes s.bytes.items ++ bits_of s.count s.partial; spare = min (8 * vec_capacity s.bytes) (2 ^ 60) - (8 * vec_len s.bytes + s.count) } };
 
-    ghost invariant = { λ s. (s.count < 32) × (s.partial < 2 ^ s.count) × (8 * vec_len s.bytes + s.count ≤ min (8 * vec_capacity s.bytes) (2 ^ 60)) };
+    ghost invariant = { λ s. (s.count < 64) × (s.partial < 2 ^ s.count) × (8 * vec_len s.bytes + s.count ≤ min (8 * vec_capacity s.bytes) (2 ^ 60)) };
 }
 
 // Puts bytes at the end, where there is room.
@@ -47,10 +50,10 @@ fn append(bytes: &mut Vec<u8>, more: &[u8])
 }
 
 // Puts a word at the end, where there is room.
-fn push_word(bytes: &mut Vec<u8>, word: u32)
-    requires room { vec_len bytes.old + 4 ≤ vec_capacity bytes.old }
-    ensures bits { bits_of_bytes bytes.new.items ≡ bits_of_bytes bytes.old.items ++ bits_of 32 word }
-    ensures len { vec_len bytes.new ≡ vec_len bytes.old + 4 }
+fn push_word(bytes: &mut Vec<u8>, word: u64)
+    requires room { vec_len bytes.old + 8 ≤ vec_capacity bytes.old }
+    ensures bits { bits_of_bytes bytes.new.items ≡ bits_of_bytes bytes.old.items ++ bits_of 64 word }
+    ensures len { vec_len bytes.new ≡ vec_len bytes.old + 8 }
     ensures capacity { vec_capacity bytes.old ≤ vec_capacity bytes.new }
 {
     append(bytes, &word.to_be_bytes());
@@ -68,7 +71,7 @@ fn push_byte(bytes: &mut Vec<u8>, byte: u8)
 
 // Puts the low `count` bits of a number at the end, which make whole bytes.
 fn push_bytes(bytes: &mut Vec<u8>, number: u64, count: u32)
-    requires count { count < 32 }
+    requires count { count < 64 }
     requires border { count % 8 ≡ 0 }
     requires room { 8 * vec_len bytes.old + count ≤ 8 * vec_capacity bytes.old }
     ensures { bits_of_bytes bytes.new.items ≡ bits_of_bytes bytes.old.items ++ bits_of count number }
@@ -130,15 +133,28 @@ impl BitWriter {
         ensures bits { self.new.bits ≡ self.old.bits ++ bits_of width value }
         ensures spare { self.old.spare ≤ self.new.spare + width }
     {
-        let number = join(self.partial, u64::from(value), width);
+        self.put_wide(u64::from(value), width);
+    }
+
+    /// The same of a number of up to 64 bits.
+    pub fn put_wide(&mut self, value: u64, width: u32)
+        requires width { width ≤ 64 }
+        requires fits { value < 2 ^ width }
+        requires room { width ≤ self.old.spare }
+        ensures bits { self.new.bits ≡ self.old.bits ++ bits_of width value }
+        ensures spare { self.old.spare ≤ self.new.spare + width }
+    {
         let count = self.count + width;
         if count < WORD {
-            self.partial = number;
+            self.partial = join(self.partial, value, width);
             self.count = count;
         } else {
             let rest = count - WORD;
-            push_word(&mut self.bytes, high_word(number, rest));
-            self.partial = low_bits(number, rest);
+            push_word(
+                &mut self.bytes,
+                join(self.partial, value >> rest, WORD - self.count),
+            );
+            self.partial = low_bits(value, rest);
             self.count = rest;
         }
     }
@@ -150,9 +166,9 @@ impl BitWriter {
         ensures spare { self.old.spare ≤ self.new.spare + (ones + 1) }
     {
         let mut left = ones;
-        'filling: while left >= WORD {
-            self.put(u32::MAX, WORD);
-            left -= WORD;
+        'filling: while left >= RUN {
+            self.put(u32::MAX, RUN);
+            left -= RUN;
         }
         self.put(unary(left), left + 1);
     }
