@@ -1,0 +1,11 @@
+pub mod Selections
+pub mod Wholes
+pub mod WholeFrames
+pub mod OneCapture
+pub mod Firsts
+pub mod Times
+pub mod Edits
+pub mod Dealing
+pub mod Sorting
+pub mod Finding
+pub mod Heading

@@ -1,0 +1,9 @@
+pub mod Offer
+pub mod Lists
+pub mod Capture
+pub mod Offers
+pub mod Heads
+pub mod Selection
+pub mod Pictures
+pub mod Found
+pub mod Laws

@@ -1,0 +1,4 @@
+pub mod Datagrams
+pub mod Packing
+pub mod Sent
+pub mod Laws
