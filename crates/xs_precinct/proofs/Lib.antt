@@ -1,0 +1,16 @@
+pub mod Pairs
+pub mod Fields
+pub mod Coded
+pub mod Numbered
+pub mod Rows
+pub mod Faults
+pub mod Windows
+pub mod Placed
+pub mod First
+pub mod Known
+pub mod Raised
+pub mod Packets
+pub mod Portion
+pub mod Next
+pub mod Whole
+pub mod Begun

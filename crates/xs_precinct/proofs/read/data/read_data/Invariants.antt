@@ -1,0 +1,16 @@
+use Rattle.std.proofs.Common.{◌≡◌, List, take, drop}
+use Rattle.std.specs.List.{AllByRecursion}
+use Rattle.xs_bits.specs.Reading.{left}
+use Rattle.xs_lists.specs.Bits.{bits_of_bytes}
+use Rattle.xs_spelling.specs.Counts.{Line}
+use Rattle.xs_precinct.specs.Bands.{CountsOf, EachOf, HoldsNumbers, SameCoded}
+use Rattle.xs_precinct.proofs.Numbered.{DataSoFar}
+use Rattle.xs_precinct.proofs.read.data.read_data.Given as goal
+
+abbrev pub invariant-bands : goal.invariant-bands
+invariant-bands l = record {
+  later : drop l.k l.bands ≡ drop l.k l.initial.bands;
+  coded : EachOf SameCoded (take l.k l.initial.bands) (take l.k l.bands);
+  filled : AllByRecursion (HoldsNumbers l.apart) (take l.k l.bands);
+  read : (lines : List Line) → EachOf CountsOf l.initial.bands lines → DataSoFar l.apart lines l.bands (bits_of_bytes l.bytes) (left l.input) l.k;
+}

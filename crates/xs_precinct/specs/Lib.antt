@@ -1,0 +1,4 @@
+pub mod Held
+pub mod Bands
+pub mod Parts
+pub mod Read
