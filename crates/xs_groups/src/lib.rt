@@ -1,0 +1,75 @@
+//! The code groups of a row of coefficients: their magnitudes, with zeros past the end of the row, and their bit planes.
+#![tactic(auto)]
+
+ghost use Rattle.std.specs.Prelude.{◌≡◌, ℕ, ◌+◌, ◌*◌, ◌<◌, ◌≤◌, ◌^◌, length, pos, max, map, unsigned_abs, slice_index_or, All};
+ghost use Rattle.std.specs.List.{fold};
+ghost use Rattle.xs_bits.specs.Counts.{AreCounts};
+ghost use Rattle.xs_lists.specs.Spelling.{upto};
+ghost use Rattle.xs_signal.specs.Lines.{entries_of};
+ghost use Rattle.xs_spelling.specs.Data.{columns_of};
+ghost use Rattle.xs_rate.specs.Content.{digits_of, planes_of};
+ghost use Rattle.xs_rate.specs.Laws.{IsSmallRow};
+
+/// The magnitudes of a code group.
+pub fn magnitudes_at(row: &[i32], group: usize) -> [u32; 4]
+    requires few { group < 2 ^ 32 }
+    ensures { result ≡ map (λ column. unsigned_abs (entries_of row.now column)) (columns_of group) }
+{
+    let first = 4 * group;
+    [
+        magnitude(row, first),
+        magnitude(row, first + 1),
+        magnitude(row, first + 2),
+        magnitude(row, first + 3),
+    ]
+}
+
+// The magnitude at a column.
+fn magnitude(row: &[i32], column: usize) -> u32
+    ensures { result ≡ unsigned_abs (entries_of row.now column) }
+{
+    if column < row.len() {
+        row[column].unsigned_abs()
+    } else {
+        0
+    }
+}
+
+/// The bit planes of each code group of a row.
+pub fn count_planes(row: &[i32], planes: &mut [u8])
+    requires small { IsSmallRow (entries_of row.now) }
+    requires few { length planes.old ≤ 2048 }
+    ensures planes { planes.new ≡ map (planes_of (entries_of row.now)) (upto (length planes.old)) }
+    ensures counts { AreCounts planes.new }
+{
+    'groups: for group in 0..planes.len() {
+        planes[group] = planes_at(row, group);
+    }
+}
+
+// The bit planes of a code group.
+fn planes_at(row: &[i32], group: usize) -> u8
+    requires small { IsSmallRow (entries_of row.now) }
+    requires few { group < 2 ^ 32 }
+    ensures planes { result ≡ planes_of (entries_of row.now) group }
+    ensures most { result ≤ 15 }
+{
+    digits(greatest(magnitudes_at(row, group)))
+}
+
+// The greatest of four magnitudes.
+fn greatest(magnitudes: [u32; 4]) -> u32
+    ensures { result ≡ fold max 0 magnitudes }
+{
+    let [a, b, c, d] = magnitudes;
+    a.max(b).max(c).max(d)
+}
+
+// The binary digits of a magnitude.
+fn digits(magnitude: u32) -> u8
+    requires { magnitude < 2 ^ 15 }
+    ensures digits { result ≡ digits_of magnitude }
+    ensures most { result ≤ 15 }
+{
+    (32 - magnitude.leading_zeros()) as u8
+}

@@ -1,0 +1,4 @@
+//! A precinct of a slice as bytes.
+#![tactic(auto)]
+
+mod write;

@@ -1,0 +1,2 @@
+//! A precinct as bytes.
+mod row;

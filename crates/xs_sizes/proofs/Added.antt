@@ -1,0 +1,190 @@
+-- The sizes of a line at each truncation, and those of the lines of a band.
+use Rattle.std.proofs.Common.{◌≡◌, ℕ, zero, suc, ℤ, ◌+◌, ◌-◌, ◌*◌, ◌%◌, ◌<◌, ◌≤◌, min, List, [], ◌∷◌, ◌++◌, map, length, sum_by, get_or, refl, sym, ap, subst, ◌∙◌, arith, inl, inr, length-append}
+use Rattle.std.specs.Prelude.{Bool, true, false, max, not, nat_eq, nat_lt, ◌&&◌, if◌then◌else◌, replicate, All}
+use Rattle.std.proofs.lemmas.Bool.{cases_eq, eq-eqb, ne_eqb}
+use Rattle.std.proofs.lemmas.List.{get_or_append_left, get_or-append-add}
+use Rattle.std.proofs.lemmas.List.FromFn.{get_or-map-range_with_len, length-map-range_with_len}
+use Rattle.std.proofs.lemmas.List.Elements.{All-from_recursion}
+use Rattle.std.proofs.lemmas.Nat.{mod-mul-add}
+use Rattle.xs_lists.specs.Spelling.{upto}
+use Rattle.xs_layout.specs.Geometry.{groups_of}
+use Rattle.xs_layout.specs.declared.Quant.{Quant}
+use Rattle.xs_layout.specs.declared.Quant.TheVariants.{DeadZone, Uniform}
+use Rattle.xs_params.specs.declared.header.Header.{Header}
+use Rattle.xs_params.specs.Rows.{Rows}
+use Rattle.xs_params.specs.Geometry.{band_width_of, bands_of}
+use Rattle.xs_spelling.specs.Counts.{predicts_above, predicted, has_flags}
+use Rattle.xs_spelling.specs.Sizes.{count_size, data_size, signs_size}
+use Rattle.xs_grammar.specs.Precinct.{is_first_line}
+use Rattle.xs_geometry.specs.SliceLines.{BandLines, HasLine, AreLinesOf, lines_at, rows_held, slice_height}
+use Rattle.xs_rate.specs.Content.{planes_of}
+use Rattle.xs_groups.proofs.Planes.{planes_most, all_planes}
+use Rattle.xs_sizes.specs.Lengths.{plain_line}
+use Rattle.xs_sizes.specs.Cut.{cut_line, sent_line, planes_above, AreCutSizes}
+use Rattle.xs_sizes.specs.Counted.{AreBandSizes, cut_at, no_sizes}
+use Rattle.xs_sizes.specs.LineSizes.{AreLineSizes, AreAdded, cut_of, next_of}
+use Rattle.xs_sizes.specs.declared.line.CutSizes.{CutSizes}
+use Rattle.xs_sizes.specs.declared.line.LineSizes.{LineSizes}
+use Rattle.xs_sizes.proofs.Same.{SameCoded, count_size_same}
+use Rattle.xs_sizes.proofs.Plain.{left_sum, number_size, alone_size, sum_range, apart_sum, in_sum, left_least, left_falls, left_all, length_upto}
+
+-- what is known of a line that is counted
+record IsCounting (h : Header) (rows : Rows) (band line : ℕ) (none above planes : List ℕ) : Type 0 where
+  size : length planes ≡ groups_of (band_width_of h band)
+  zeros : none ≡ replicate (length planes) 0
+  own : (group : ℕ) → group < length planes → get_or planes group 0 ≡ planes_of (rows band line) group
+  under : (group : ℕ) → group < length planes → get_or above group 0 ≡ planes_above h rows band line group
+
+no_zeros : (n group : ℕ) → get_or {A = ℕ} (replicate n 0) group 0 ≡ 0
+no_zeros zero group = refl
+no_zeros (suc n) zero = refl
+no_zeros (suc n) (suc group) = no_zeros n group
+
+-- Counts
+
+same_prediction : (x a t : ℕ) (predicts first : Bool) → x ≡ (if predicts then (if first then 0 else a) else 0) → max x t ≡ (if predicts && not first then predicted (max a t) t t else t)
+same_prediction x a t true true e = omega (arith, e)
+same_prediction x a t true false e = omega (arith, e)
+same_prediction x a t false first e = omega (arith, e)
+
+same_cut : (h : Header) (rows : Rows) (band line t mode plain : ℕ) (kind : Quant) (under planes : List ℕ) → length planes ≡ groups_of (band_width_of h band) → has_flags plain ≡ has_flags mode
+    → ((group : ℕ) → group < length planes → get_or planes group 0 ≡ planes_of (rows band line) group)
+    → ((group : ℕ) → group < length planes → get_or under group 0 ≡ (if predicts_above mode then planes_above h rows band line group else 0))
+    → SameCoded (plain_line under planes t plain) (cut_line h kind rows t mode band line)
+same_cut h rows band line t mode plain kind under planes groups flags counts predictions = record {
+  groups = groups;
+  truncation = refl;
+  flags = flags;
+  prediction = λ group inside. same_prediction (get_or under group 0) (planes_of (rows band (line - 1)) group) t (predicts_above mode) (is_first_line h band line) (predictions group inside);
+  count = λ group inside. ap (λ p. max p t) (counts group inside);
+}
+
+counts_are : (h : Header) (rows : Rows) (band line t : ℕ) (signs : Bool) (none above planes : List ℕ) (sizes : LineSizes) → t ≤ 15 → IsCounting h rows band line none above planes
+    → AreLineSizes none above planes (rows band line) signs sizes → (kind : Quant) (mode : ℕ) → mode < 4 → get_or (cut_of sizes t).counts mode 0 ≡ count_size (cut_line h kind rows t mode band line)
+counts_are h rows band line t signs none above planes sizes le known are kind zero few =
+    are.plain t le ∙ count_size_same _ _ (same_cut h rows band line t 0 0 kind none planes known.size refl known.own (λ group inside. ap (λ l. get_or l group 0) known.zeros ∙ no_zeros (length planes) group))
+counts_are h rows band line t signs none above planes sizes le known are kind (suc zero) few =
+    are.predicted t le ∙ count_size_same _ _ (same_cut h rows band line t 1 0 kind above planes known.size refl known.own known.under)
+counts_are h rows band line t signs none above planes sizes le known are kind (suc (suc zero)) few =
+    are.plain_kept t le ∙ count_size_same _ _ (same_cut h rows band line t 2 2 kind none planes known.size refl known.own (λ group inside. ap (λ l. get_or l group 0) known.zeros ∙ no_zeros (length planes) group))
+counts_are h rows band line t signs none above planes sizes le known are kind (suc (suc (suc zero))) few =
+    are.predicted_kept t le ∙ count_size_same _ _ (same_cut h rows band line t 3 2 kind above planes known.size refl known.own known.under)
+counts_are h rows band line t signs none above planes sizes le known are kind (suc (suc (suc (suc mode)))) few = absurd (omega (arith, few))
+
+-- Numbers
+
+numbers_are : (h : Header) (rows : Rows) (band line t : ℕ) (signs : Bool) (none above planes : List ℕ) (sizes : LineSizes) → t ≤ 15 → IsCounting h rows band line none above planes
+    → AreLineSizes none above planes (rows band line) signs sizes → (apart : Bool)
+    → (if apart then (cut_of sizes t).data_apart else (cut_of sizes t).data_in) ≡ sum_by (number_size apart (planes_of (rows band line)) t) (upto (length planes))
+numbers_are h rows band line t signs none above planes sizes le known are = cases
+  where
+    p : ℕ → ℕ
+    p = planes_of (rows band line)
+
+    few : (g : ℕ) → p g ≤ 15
+    few g = planes_most (rows band line) g
+
+    at : (t : ℕ) → t ≤ 15 → get_or sizes.plain.all t 0 ≡ left_sum p t (upto (length planes))
+    at t le = alone_size none above planes (rows band line) signs sizes t le known.zeros are
+        ∙ sum_range (λ group. max (get_or planes group 0) t - t + 1) (λ group. max (p group) t - t + 1) 0 (length planes) (λ i inside. ap (λ k. max k t - t + 1) (known.own i (omega (arith, inside))))
+
+    next : (t : ℕ) → t ≤ 15 → next_of sizes t ≡ left_sum p (t + 1) (upto (length planes))
+    next t le = elim (cases_eq t 15) [
+      | inl last ↦
+          let past : left_sum p (t + 1) (upto (length planes)) ≡ length planes =
+          (let falls = left_falls p t (upto (length planes)) in let all : left_sum p t (upto (length planes)) ≡ length (upto (length planes)) = ap (λ k. left_sum p k (upto (length planes))) last ∙ left_all p (upto (length planes)) few in
+          omega (arith, falls, all, left_least p (t + 1) (upto (length planes)), length_upto (length planes))) in
+          ap (λ (b : Bool). if b then sizes.groups else get_or sizes.plain.all (t + 1) 0) (eq-eqb t 15 last) ∙ are.groups ∙ sym past
+      | inr more ↦ ap (λ (b : Bool). if b then sizes.groups else get_or sizes.plain.all (t + 1) 0) (ne_eqb t 15 more) ∙ at (t + 1) (omega (arith, le, more))
+    ]
+
+    cases : (apart : Bool) → (if apart then (cut_of sizes t).data_apart else (cut_of sizes t).data_in) ≡ sum_by (number_size apart p t) (upto (length planes))
+    cases true = omega (arith, at t le, are.groups, apart_sum p t (upto (length planes)), length_upto (length planes))
+    cases false = omega (arith, at t le, next t le, are.groups, in_sum p t (upto (length planes)), left_falls p t (upto (length planes)), left_least p t (upto (length planes)), length_upto (length planes))
+
+cut_sizes_are : (h : Header) (rows : Rows) (band line t : ℕ) (signs : Bool) (none above planes : List ℕ) (sizes : LineSizes) → t ≤ 15 → IsCounting h rows band line none above planes
+    → AreLineSizes none above planes (rows band line) signs sizes → AreCutSizes h rows signs t band line (cut_of sizes t)
+cut_sizes_are h rows band line t signs none above planes sizes le known are = record {
+  counts = counts_are h rows band line t signs none above planes sizes le known are;
+  numbers = λ kind mode apart. numbers_are h rows band line t signs none above planes sizes le known are apart ∙ ap (λ n. sum_by (number_size apart (planes_of (rows band line)) t) (upto n)) known.size;
+  dead_zone = λ wanted mode. are.dead_zone wanted t le ∙ ap (λ n. signs_size (sent_line DeadZone (rows band line) n t)) known.size;
+  uniform = λ wanted mode. are.uniform wanted t le ∙ ap (λ n. signs_size (sent_line Uniform (rows band line) n t)) known.size;
+}
+
+-- One more line of a band
+
+pub line_added : (h : Header) (rows : Rows) (band first line : ℕ) (signs : Bool) (none above planes : List ℕ) (sizes : LineSizes) (cuts : List CutSizes) → first ≤ line
+    → length planes ≡ groups_of (band_width_of h band) → none ≡ replicate (length planes) 0
+    → ((group : ℕ) → group < length planes → get_or planes group 0 ≡ planes_of (rows band line) group)
+    → ((group : ℕ) → group < length planes → get_or above group 0 ≡ planes_above h rows band line group)
+    → AreLineSizes none above planes (rows band line) signs sizes → AreBandSizes h rows signs band first line cuts
+    → AreBandSizes h rows signs band first (line + 1) (cuts ++ map (cut_of sizes) (upto 16))
+line_added h rows band first line signs none above planes sizes cuts from groups zeros counts predictions are before = record {
+  count = omega (arith, length-append cuts (map (cut_of sizes) (upto 16)), before.count, length-map-range_with_len (cut_of sizes) 0 16, from);
+  sizes = each;
+}
+  where
+    known : IsCounting h rows band line none above planes
+    known = record { size = groups; zeros = zeros; own = counts; under = predictions }
+
+    each : (l t : ℕ) → first ≤ l → l < line + 1 → t ≤ 15 → AreCutSizes h rows signs t band l (cut_at (cuts ++ map (cut_of sizes) (upto 16)) first l t)
+    each l t low high le = elim (cases_eq l line) [
+      | inl same ↦
+          let place : 16 * (l - first) + t ≡ length cuts + t = omega (arith, same, before.count) in
+          let here : cut_at (cuts ++ map (cut_of sizes) (upto 16)) first l t ≡ cut_of sizes t =
+          ap (λ k. get_or (cuts ++ map (cut_of sizes) (upto 16)) k no_sizes) place ∙ get_or-append-add cuts (map (cut_of sizes) (upto 16)) t no_sizes
+          ∙ get_or-map-range_with_len (cut_of sizes) 0 16 t t no_sizes (omega (arith, le)) (omega arith) in
+          subst (λ s. AreCutSizes h rows signs t band l s) (sym here) (subst (λ k. AreCutSizes h rows signs t band k (cut_of sizes t)) (sym same) (cut_sizes_are h rows band line t signs none above planes sizes le known are))
+      | inr other ↦
+          let inside : 16 * (l - first) + t < length cuts = omega (arith, other, high, low, le, before.count) in
+          subst (λ s. AreCutSizes h rows signs t band l s) (sym (get_or_append_left cuts (map (cut_of sizes) (upto 16)) no_sizes (16 * (l - first) + t) inside)) (before.sizes l t low (omega (arith, other, high)) le)
+    ]
+
+-- The first line of a slice
+
+pub first_line : (h : Header) (slice : ℕ) (bands : List BandLines) (band line : ℕ) → AreLinesOf h slice bands → HasLine bands band line → is_first_line h band line ≡ nat_eq line (lines_at bands band).first
+first_line h slice bands band line are has =
+    let size = slice_height h band in
+    let there : band < bands_of h = omega (arith, has.band_there, are.count) in
+    let first = are.first band there in
+    let end = are.lines band there in
+    let next : (slice + 1) * size ≡ slice * size + size = omega arith in
+    let low : slice * size ≤ line = omega (arith, has.from, first, has.line_there, end) in
+    let rest : line - slice * size < size = omega (arith, low, has.line_there, first, end, next) in
+    let back : slice * size + (line - slice * size) ≡ line = omega (arith, low) in
+    let left : line % size ≡ line - slice * size = sym (ap (λ n. n % size) back) ∙ mod-mul-add slice size (line - slice * size) rest in
+    ap (λ n. nat_eq n 0) left ∙ same (line - slice * size) (lines_at bands band).first has.from (omega (arith, first, has.from, low, has.line_there, end))
+  where
+    same : (n first : ℕ) → first ≤ line → n ≡ line - first → nat_eq n 0 ≡ nat_eq line first
+    same n first from e = elim (cases_eq line first) [
+      | inl here ↦ eq-eqb n 0 (omega (arith, e, here)) ∙ sym (eq-eqb line first here)
+      | inr past ↦ ne_eqb n 0 (λ none. past (omega (arith, e, none, from))) ∙ sym (ne_eqb line first past)
+    ]
+
+-- the sizes of no lines
+pub band_start : (h : Header) (rows : Rows) (signs : Bool) (band first : ℕ) (cuts : List CutSizes) → cuts ≡ [] → AreBandSizes h rows signs band first first cuts
+band_start h rows signs band first cuts none = record { count = omega (arith, ap length none); sizes = λ line t low high le. absurd (omega (arith, low, high)) }
+
+pub first_zero : (first x : ℕ) → (if nat_eq first first then 0 else x) ≡ 0
+first_zero first x = ap (λ (b : Bool). if b then 0 else x) (eq-eqb first first refl)
+
+pub next_planes : (first line x y : ℕ) → first ≤ line → x ≡ y → x ≡ (if nat_eq (line + 1) first then 0 else y)
+next_planes first line x y from e = e ∙ sym (ap (λ (b : Bool). if b then 0 else y) (ne_eqb (line + 1) first (λ same. absurd (omega (arith, same, from)))))
+
+-- what was added behind the lines of a band
+pub row_added : (h : Header) (slice : ℕ) (bands : List BandLines) (band line n : ℕ) (signs : Bool) (none above : List ℕ) (old new : List CutSizes) → AreLinesOf h slice bands → HasLine bands band line
+    → n ≡ groups_of (band_width_of h band) → none ≡ replicate n 0
+    → ((group : ℕ) → group < n → get_or above group 0 ≡ (if nat_eq line (lines_at bands band).first then 0 else planes_of (rows_held bands band (line - 1)) group))
+    → AreAdded none above (map (planes_of (rows_held bands band line)) (upto n)) (rows_held bands band line) signs old new
+    → AreBandSizes h (rows_held bands) signs band (lines_at bands band).first line old → AreBandSizes h (rows_held bands) signs band (lines_at bands band).first (line + 1) new
+row_added h slice bands band line n signs none above old new are has groups zeros predictions added before =
+    let planes = map (planes_of (rows_held bands band line)) (upto n) in
+    let size : length planes ≡ n = length-map-range_with_len (planes_of (rows_held bands band line)) 0 n in
+    subst (λ cuts. AreBandSizes h (rows_held bands) signs band (lines_at bands band).first (line + 1) cuts) (sym added.added)
+    (line_added h (rows_held bands) band (lines_at bands band).first line signs none above planes added.line old has.from (size ∙ groups) (zeros ∙ ap (λ k. replicate k 0) (sym size))
+    (λ group inside. own group (omega (arith, size, inside)))
+    (λ group inside. predictions group (omega (arith, size, inside)) ∙ ap (λ (b : Bool). if b then 0 else planes_of (rows_held bands band (line - 1)) group) (sym (first_line h slice bands band line are has)))
+    added.sizes before)
+  where
+    own : (group : ℕ) → group < n → get_or (map (planes_of (rows_held bands band line)) (upto n)) group 0 ≡ planes_of (rows_held bands band line) group
+    own group inside = let none : 0 + group ≡ group = omega arith in get_or-map-range_with_len (planes_of (rows_held bands band line)) 0 n group group 0 inside none

@@ -1,0 +1,39 @@
+-- What is kept of a slice to count its sizes.
+use Rattle.std.specs.Prelude.{◌≡◌, ℕ, ◌+◌, ◌-◌, ◌*◌, ◌<◌, ◌≤◌, Bool, List, length, slice_index_or, replicate}
+use Rattle.xs_layout.specs.Geometry.{groups_of, significance_groups_of}
+use Rattle.xs_params.specs.declared.header.Header.{Header}
+use Rattle.xs_params.specs.Rows.{Rows}
+use Rattle.xs_params.specs.Geometry.{band_width_of}
+use Rattle.xs_geometry.specs.SliceLines.{BandLines, HasLine, AreLinesOf, lines_at, rows_held}
+use Rattle.xs_sizes.specs.Cut.{AreCutSizes}
+use Rattle.xs_sizes.specs.declared.line.CutSizes.{CutSizes}
+use Rattle.xs_sizes.specs.declared.counts.BandCounts.{BandCounts}
+use Rattle.xs_sizes.specs.declared.counts.SliceCounts.{SliceCounts}
+
+abbrev pub no_sizes : CutSizes
+no_sizes = record { counts = replicate 4 0; data_in = 0; data_apart = 0; dead_zone = 0; uniform = 0 }
+
+-- the sizes of a line at a truncation among those of a band whose lines begin at this one
+abbrev pub cut_at : List CutSizes → ℕ → ℕ → ℕ → CutSizes
+cut_at cuts first line t = slice_index_or cuts (16 * (line - first) + t) no_sizes
+
+-- the sizes of some lines of a band from the first on, each at every truncation
+pub record AreBandSizes (h : Header) (rows : Rows) (with_signs : Bool) (band first end : ℕ) (cuts : List CutSizes) : Type 0 where
+  pub count : length cuts ≡ 16 * (end - first)
+  pub sizes : (line t : ℕ) → first ≤ line → line < end → t ≤ 15 → AreCutSizes h rows with_signs t band line (cut_at cuts first line t)
+
+-- those of all lines of a band in the slice
+pub record IsBandCounted (h : Header) (bands : List BandLines) (with_signs : Bool) (band : ℕ) (counts : BandCounts) : Type 0 where
+  pub first : counts.first ≡ (lines_at bands band).first
+  pub flags : counts.flags ≡ significance_groups_of (groups_of (band_width_of h band))
+  pub lines : AreBandSizes h (rows_held bands) with_signs band (lines_at bands band).first ((lines_at bands band).first + length (lines_at bands band).rows) counts.cuts.items
+
+-- those of all bands
+pub record AreCountsOf (h : Header) (bands : List BandLines) (counts : SliceCounts) : Type 0 where
+  pub count : length counts.bands.items ≡ length bands
+  pub each : (band : ℕ) (none : BandCounts) → band < length bands → IsBandCounted h bands counts.signs band (slice_index_or counts.bands.items band none)
+
+-- the sizes stand for the rows of a slice
+pub record CountsSlice (h : Header) (slice : ℕ) (bands : List BandLines) (counts : SliceCounts) : Type 0 where
+  pub lines : AreLinesOf h slice bands
+  pub counted : AreCountsOf h bands counts

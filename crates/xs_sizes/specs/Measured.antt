@@ -1,0 +1,79 @@
+-- The sizes of packets and precincts by the sizes that are kept.
+use Rattle.std.specs.Prelude.{◌≡◌, ℕ, ◌+◌, ◌-◌, ◌*◌, ◌<◌, ◌≤◌, Bool, true, false, List, length, slice_index_or}
+use Rattle.std.specs.List.{sum_by, Contains}
+use Rattle.xs_layout.specs.Geometry.{PacketPlace}
+use Rattle.xs_layout.specs.Weighting.{truncation_of}
+use Rattle.xs_layout.specs.declared.Candidate.{Candidate}
+use Rattle.xs_layout.specs.declared.Quant.{Quant}
+use Rattle.xs_layout.specs.declared.Quant.TheVariants.{DeadZone, Uniform}
+use Rattle.xs_layout.specs.declared.Weight.{Weight}
+use Rattle.xs_params.specs.declared.header.Header.{Header}
+use Rattle.xs_params.specs.Rows.{Rows}
+use Rattle.xs_params.specs.Geometry.{coding_header, packet_bands}
+use Rattle.xs_geometry.specs.SliceLines.{BandLines}
+use Rattle.xs_spelling.specs.Counts.{Line}
+use Rattle.xs_spelling.specs.Sizes.{count_size, data_size, flag_size, signs_size}
+use Rattle.xs_grammar.specs.Coded.{packet_fits}
+use Rattle.xs_grammar.specs.Sizes.{packet_size}
+use Rattle.xs_rate.specs.Chosen.{content_at, mode_of}
+use Rattle.xs_rate.specs.Modes.{band_lines, fewest}
+use Rattle.xs_sizes.specs.Cut.{cut_line}
+use Rattle.xs_sizes.specs.Counted.{CountsSlice}
+use Rattle.xs_sizes.specs.declared.line.CutSizes.{CutSizes}
+use Rattle.xs_sizes.specs.declared.counts.SliceCounts.{SliceCounts}
+use Rattle.xs_sizes.specs.declared.modes.Coding.{Coding}
+use Rattle.xs_sizes.specs.declared.modes.PartBits.{PartBits}
+
+-- the truncation of each band at a candidate
+abbrev pub AreCutsOf : List Weight → Candidate → List ℕ → Type 0
+AreCutsOf weights candidate cuts =
+    (band : ℕ) → band < length weights → slice_index_or cuts band 0 ≡ truncation_of candidate.q candidate.r (slice_index_or weights band (record { gain = 0; priority = 0 }))
+
+-- the header by which is coded, with some weights
+abbrev pub header_in : Coding → List Weight → Header
+header_in coding weights = coding_header coding.geometry.now weights coding.signs_apart coding.quant
+
+-- what is kept is of these rows of a slice, and has the signs where they stand apart
+pub record AreKept (h : Header) (counts : SliceCounts) (signs_apart : Bool) (slice : ℕ) (bands : List BandLines) : Type 0 where
+  pub counted : CountsSlice h slice bands counts
+  pub signs : signs_apart ≡ true → counts.signs ≡ true
+
+abbrev pub IsCoding : ℕ → List BandLines → Coding → Type 0
+IsCoding slice bands coding = AreKept coding.geometry.now coding.counts.now coding.signs_apart slice bands
+
+-- the signs of a line that stand apart
+abbrev pub signs_of : Quant → CutSizes → ℕ
+signs_of DeadZone sizes = sizes.dead_zone
+signs_of Uniform sizes = sizes.uniform
+
+-- the bits of flags and counts of some lines of a band with t planes cut off, in a mode; and the mode that the band has in a precinct
+abbrev pub lines_bits : Header → Rows → ℕ → ℕ → ℕ → List ℕ → ℕ
+lines_bits h rows band t mode lines = sum_by (λ line. flag_size (cut_line h h.quant rows t mode band line) + count_size (cut_line h h.quant rows t mode band line)) lines
+
+abbrev pub mode_at : Header → Rows → ℕ → ℕ → ℕ → ℕ
+mode_at h rows precinct band t = fewest (λ mode. lines_bits h rows band t mode (band_lines h precinct band))
+
+-- the bits of a line in a mode
+pub record AreLineBits (h : Header) (rows : Rows) (t mode band line : ℕ) (bits : PartBits) : Type 0 where
+  pub flags : bits.flags ≡ flag_size (cut_line h h.quant rows t mode band line)
+  pub counts : bits.counts ≡ count_size (cut_line h h.quant rows t mode band line)
+  pub numbers : bits.numbers ≡ data_size h.signs_apart (cut_line h h.quant rows t mode band line)
+  pub signs : h.signs_apart ≡ true → bits.signs ≡ signs_size (cut_line h h.quant rows t mode band line)
+
+-- a line of a packet with the truncation of its band, in the mode that the band has in the precinct
+abbrev pub mode_line : Header → Rows → List ℕ → ℕ → ℕ → ℕ → Line
+mode_line h rows cuts precinct line band = cut_line h h.quant rows (slice_index_or cuts band 0) (mode_at h rows precinct band (slice_index_or cuts band 0)) band line
+
+-- the bits of the parts of a packet, with these truncations of the bands
+pub record ArePacketBits (h : Header) (rows : Rows) (cuts : List ℕ) (precinct : ℕ) (place : PacketPlace) (bits : PartBits) : Type 0 where
+  pub flags : bits.flags ≡ sum_by (λ band. flag_size (mode_line h rows cuts precinct place.line band)) (packet_bands h place)
+  pub counts : bits.counts ≡ sum_by (λ band. count_size (mode_line h rows cuts precinct place.line band)) (packet_bands h place)
+  pub numbers : bits.numbers ≡ sum_by (λ band. data_size h.signs_apart (mode_line h rows cuts precinct place.line band)) (packet_bands h place)
+  pub signs : h.signs_apart ≡ true → bits.signs ≡ sum_by (λ band. signs_size (mode_line h rows cuts precinct place.line band)) (packet_bands h place)
+
+-- the size of a packet at a candidate, and whether the size of each part has room in its field
+abbrev pub packet_size_at : Header → Rows → Candidate → ℕ → PacketPlace → ℕ
+packet_size_at h rows candidate precinct place = packet_size h (content_at h rows candidate) (mode_of h (content_at h rows candidate) precinct) place
+
+abbrev pub packet_fits_at : Header → Rows → Candidate → ℕ → PacketPlace → Bool
+packet_fits_at h rows candidate precinct place = packet_fits h (content_at h rows candidate) (mode_of h (content_at h rows candidate) precinct) place
