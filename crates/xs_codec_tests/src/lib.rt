@@ -1,0 +1,9 @@
+//! Tests of the codec: headers, lines, pictures that are decoded, and sizes at the limits.
+#![tactic(auto)]
+
+#[cfg(test)]
+mod decoding;
+#[cfg(test)]
+mod headers;
+#[cfg(test)]
+mod limits;

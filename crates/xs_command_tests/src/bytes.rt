@@ -1,0 +1,168 @@
+// Bytes that are spelled in a text.
+//
+// Between blanks: `128*0` is so many bytes of this value; `xff11` are bytes in hexadecimal; `4:A:B:C` are so many precincts of
+// the black picture, with the bytes A as their header and that of their packet, B behind the counts and C behind the data; a
+// word is what `named` says. `13=1` sets the byte at a place, and `<20` keeps the bytes before a place.
+use std::alloc::Global;
+use xs_io::{Memory, Octets};
+
+// The header and the slice header of a black picture of 32 by 4 samples; the header of a precinct with that of its packet, the
+// counts and the data.
+const HEADER: &str =
+    "ff10 ff500002 ff12001a 000000e8 00000000 00200004 00000004 01040814 84001000 ff1300040811 \
+    ff14000600000001 ff2000040000";
+
+const HEAD: &str = "0000260000 00 001a003800";
+
+const COUNTS: &str = "fff7ffbffdffe0";
+
+const DATA: &str = "ff00000000000ff00000000000 ff00000000000ff00000000000";
+
+// The same of 33 columns and two precincts a slice, without its length: five groups and four, of which the fifth has three
+// places past the width.
+const WIDE_HEADER: &str =
+    "ff10 ff500002 ff12001a 00000000 00000000 00210004 00000002 01040814 84001000 ff1300040811 \
+    ff14000600000001";
+
+const WIDE_PRECINCT: &str =
+    "00002f0000 00 0021004800 fff7ffbffdffefff00 ff00000000000ff00000000000 \
+    ff00000000000ff00000000000 88000000000000";
+
+// A grey picture of 32 by 17 samples at two levels across and two down: its header; the header of a precinct of ten packets
+// and that of the last precinct, of three; a packet, whose two or four counts are 0.
+const DEEP_HEADER: &str =
+    "ff10 ff500002 ff12001a 0000016d 00000000 00200011 00000004 01040814 84002200 ff1300040811 \
+    ff14001002000101010201030004000500 06";
+
+const DEEP_PRECINCT: &str = "00003c00000000";
+
+const DEEP_LAST: &str = "00001200000000";
+
+const DEEP_PACKET: &str = "000000080000";
+
+/// The number that a text spells, and 0 where it spells none.
+pub fn number(text: &str) -> usize {
+    text.trim().parse::<usize>().unwrap_or(0)
+}
+
+fn byte(text: &str) -> u8 {
+    text.trim().parse::<u8>().unwrap_or(0)
+}
+
+fn push_hex(bytes: &mut Vec<u8>, text: &str) -> Result<(), Memory> {
+    let mut high = None;
+    for digit in text.chars() {
+        if let Some(low) = digit.to_digit(16) {
+            high = match high {
+                None => Some(low),
+                Some(high) => {
+                    bytes
+                        .push((high % 16 * 16 + low % 16) as u8)
+                        .map_err(|_| Memory)?;
+                    None
+                }
+            };
+        }
+    }
+    Ok(())
+}
+
+fn push_precinct(bytes: &mut Vec<u8>, parts: &str) -> Result<(), Memory> {
+    let (head, more) = parts.split_once(':').unwrap_or((HEAD, ""));
+    let (after_counts, after_data) = more.split_once(':').unwrap_or(("", ""));
+    push_hex(bytes, if head.is_empty() { HEAD } else { head })?;
+    push_hex(bytes, COUNTS)?;
+    push_hex(bytes, after_counts)?;
+    push_hex(bytes, DATA)?;
+    push_hex(bytes, after_data)
+}
+
+fn push_precincts(bytes: &mut Vec<u8>, count: usize, parts: &str) -> Result<(), Memory> {
+    for _ in 0..count {
+        push_precinct(bytes, parts)?;
+    }
+    Ok(())
+}
+
+fn push_hex_times(bytes: &mut Vec<u8>, count: usize, text: &str) -> Result<(), Memory> {
+    for _ in 0..count {
+        push_hex(bytes, text)?;
+    }
+    Ok(())
+}
+
+fn push_wide(bytes: &mut Vec<u8>) -> Result<(), Memory> {
+    push_hex(bytes, WIDE_HEADER)?;
+    push_hex(bytes, "ff2000040000")?;
+    push_hex_times(bytes, 2, WIDE_PRECINCT)?;
+    push_hex(bytes, "ff2000040001")?;
+    push_hex_times(bytes, 2, WIDE_PRECINCT)?;
+    push_hex(bytes, "ff11")
+}
+
+fn push_deep(bytes: &mut Vec<u8>) -> Result<(), Memory> {
+    push_hex(bytes, DEEP_HEADER)?;
+    push_hex(bytes, "ff2000040000")?;
+    for _ in 0..4 {
+        push_hex(bytes, DEEP_PRECINCT)?;
+        push_hex_times(bytes, 10, DEEP_PACKET)?;
+    }
+    push_hex(bytes, "ff2000040001")?;
+    push_hex(bytes, DEEP_LAST)?;
+    push_hex_times(bytes, 3, DEEP_PACKET)?;
+    push_hex(bytes, "ff11")
+}
+
+// What a word names: the header of the black picture, or the codestream of the black one, the wide one or the deep one.
+fn push_named(bytes: &mut Vec<u8>, word: &str) -> Result<(), Memory> {
+    if word == "header" {
+        push_hex(bytes, HEADER)
+    } else if word == "black" {
+        push_hex(bytes, HEADER)?;
+        push_precincts(bytes, 4, "::")?;
+        push_hex(bytes, "ff11")
+    } else if word == "wide" {
+        push_wide(bytes)
+    } else if word == "deep" {
+        push_deep(bytes)
+    } else {
+        Ok(())
+    }
+}
+
+fn set(bytes: &mut Vec<u8>, place: usize, value: u8) {
+    if place < bytes.len() {
+        bytes[place] = value;
+    }
+}
+
+fn push_part(bytes: &mut Vec<u8>, part: &str) -> Result<(), Memory> {
+    if let Some(digits) = part.strip_prefix('x') {
+        return push_hex(bytes, digits);
+    }
+    if let Some(place) = part.strip_prefix('<') {
+        bytes.truncate(number(place));
+        return Ok(());
+    }
+    if let Some((count, value)) = part.split_once('*') {
+        let size = bytes.len().saturating_add(number(count));
+        return bytes.resize(size, byte(value)).map_err(|_| Memory);
+    }
+    if let Some((place, value)) = part.split_once('=') {
+        set(bytes, number(place), byte(value));
+        return Ok(());
+    }
+    match part.split_once(':') {
+        Some((count, parts)) => push_precincts(bytes, number(count), parts),
+        None => push_named(bytes, part),
+    }
+}
+
+/// The bytes that a text spells.
+pub fn bytes_of(alloc: Global, text: &str) -> Result<Octets, Memory> {
+    let mut bytes = Vec::new(alloc);
+    for part in text.split(' ') {
+        push_part(&mut bytes, part)?;
+    }
+    Ok(Octets::from(bytes))
+}

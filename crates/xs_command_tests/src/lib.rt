@@ -1,0 +1,15 @@
+//! Tests of the commands: what a run writes, says and answers.
+#![tactic(auto)]
+
+#[cfg(test)]
+mod bytes;
+#[cfg(test)]
+mod decode;
+#[cfg(test)]
+mod encode;
+#[cfg(test)]
+mod ends;
+#[cfg(test)]
+mod pictures;
+#[cfg(test)]
+mod rows;

@@ -1,0 +1,134 @@
+// Rows of a table of runs: words, input, status, output and note, with bars between them.
+//
+// Input and output are bytes as `bytes_of` reads them. Behind the input stand, each after a `@`, the call that fails of the
+// input, of the output and of the notes, where one does. An output `#N` is any of so many bytes.
+use crate::bytes::{bytes_of, number};
+use std::alloc::Global;
+use std::thread::Threads;
+use xs_cli::run;
+use xs_io::{MemSink, MemSource, Memory, Numbers, Octets, OpenGate};
+
+/// What a run left.
+#[derive(Drop)]
+pub struct Outcome {
+    pub status: u8,
+    pub output: MemSink,
+    pub notes: MemSink,
+}
+
+/// The calls that fail of the input, of the output and of the notes.
+#[derive(Drop)]
+pub struct Failing {
+    pub input: Numbers,
+    pub output: Numbers,
+    pub notes: Numbers,
+}
+
+impl Failing {
+    pub fn none(alloc: Global) -> Failing {
+        Failing {
+            input: Numbers::new(alloc),
+            output: Numbers::new(alloc),
+            notes: Numbers::new(alloc),
+        }
+    }
+}
+
+/// The words of a text, which stand between blanks.
+pub fn words_of(alloc: Global, text: &str) -> Result<Vec<String>, Memory> {
+    let mut words = Vec::new(alloc);
+    for word in text.split(' ') {
+        if !word.is_empty() {
+            let word = String::from_str(alloc, word).map_err(|_| Memory)?;
+            words.push(word).map_err(|_| Memory)?;
+        }
+    }
+    Ok(words)
+}
+
+pub fn run_on<T: Threads + Sync>(
+    threads: &T,
+    alloc: Global,
+    words: &str,
+    input: Octets,
+    failing: Failing,
+) -> Result<Outcome, Memory> {
+    let words = words_of(alloc, words)?;
+    let mut input = MemSource::new(input, failing.input);
+    let mut output = MemSink::new(alloc, failing.output);
+    let mut notes = MemSink::new(alloc, failing.notes);
+    let status = run(
+        threads,
+        alloc,
+        words.as_slice(),
+        &mut input,
+        &mut output,
+        &mut notes,
+        &OpenGate,
+    );
+    Ok(Outcome {
+        status,
+        output,
+        notes,
+    })
+}
+
+fn call_of(alloc: Global, text: &str) -> Result<Numbers, Memory> {
+    match text.trim().parse::<u32>() {
+        Ok(call) => Numbers::from_slice(alloc, &[call]),
+        Err(_) => Ok(Numbers::new(alloc)),
+    }
+}
+
+// The bytes of an input, and what fails.
+fn given_of(alloc: Global, text: &str) -> Result<(Octets, Failing), Memory> {
+    let mut parts = text.split('@');
+    let bytes = bytes_of(alloc, parts.next().unwrap_or(""))?;
+    let failing = Failing {
+        input: call_of(alloc, parts.next().unwrap_or(""))?,
+        output: call_of(alloc, parts.next().unwrap_or(""))?,
+        notes: call_of(alloc, parts.next().unwrap_or(""))?,
+    };
+    Ok((bytes, failing))
+}
+
+// Whether these bytes were written.
+fn is_written(alloc: Global, held: &[u8], text: &str) -> Result<bool, Memory> {
+    match text.trim().strip_prefix('#') {
+        Some(size) => Ok(held.len() == number(size)),
+        None => Ok(bytes_of(alloc, text)?.as_slice() == held),
+    }
+}
+
+// Whether this is the line that was said, or nothing was where the line is empty.
+fn is_said(held: &[u8], line: &str) -> bool {
+    match held.split_last() {
+        Some((last, text)) => *last == b'\n' && text == line.as_bytes(),
+        None => line.is_empty(),
+    }
+}
+
+fn runs_as<T: Threads + Sync>(
+    threads: &T,
+    alloc: Global,
+    first: &str,
+    row: &str,
+) -> Result<bool, Memory> {
+    let mut parts = row.split('|');
+    let words = format!(in alloc; "{first} {}", parts.next().unwrap_or("")).map_err(|_| Memory)?;
+    let (input, failing) = given_of(alloc, parts.next().unwrap_or(""))?;
+    let left = run_on(threads, alloc, words.as_str(), input, failing)?;
+    Ok(
+        usize::from(left.status) == number(parts.next().unwrap_or(""))
+            && is_written(alloc, left.output.held(), parts.next().unwrap_or(""))?
+            && is_said(left.notes.held(), parts.next().unwrap_or("").trim()),
+    )
+}
+
+/// Whether a run of these words, and further words in the row, goes as the row says.
+pub fn holds<T: Threads + Sync>(threads: &T, alloc: Global, first: &str, row: &str) -> bool {
+    match runs_as(threads, alloc, first, row) {
+        Ok(held) => held,
+        Err(Memory) => false,
+    }
+}

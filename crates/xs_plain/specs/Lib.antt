@@ -1,5 +1,0 @@
-pub mod Lines
-pub mod Places
-pub mod Rows
-pub mod Packets
-pub mod Slices
