@@ -132,9 +132,6 @@ pub enum PrecinctFault {
     /// A bit-plane count is over 15.
     #[error("a bit-plane count is out of range")]
     Count { packet: u32, value: u32 },
-    /// A packet has a form that is not read yet.
-    #[error("a packet has a form that is not read yet")]
-    Unbuilt { packet: u32 },
     /// Memory was wanting.
     #[error("out of memory")]
     Memory,

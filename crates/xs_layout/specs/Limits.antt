@@ -26,10 +26,6 @@ is_depth depth = nat_eq depth 8 || nat_eq depth 10 || nat_eq depth 12
 abbrev pub IsDepth : ℕ → Type 0
 IsDepth depth = (depth ≡ 8) ⊎ (depth ≡ 10) ⊎ (depth ≡ 12)
 
--- columns of all components of a picture that is encoded: with so many, what a packet has fits its fields though nothing is cut off
-abbrev pub most_columns : ℕ
-most_columns = 8192
-
 -- Coding
 
 -- bits of the numbers that the transforms work on (Bw)

@@ -9,10 +9,6 @@ pub const LEAST_HEIGHT: u32 = 4;
 pub const MOST_HEIGHT: u32 = 8192;
 /// Samples of the first component.
 pub const MOST_AREA: u64 = 1 << 24;
-/// Columns of all components of a picture that is encoded: with so many, what a packet has fits its fields though
-/// nothing is cut off.
-pub const MOST_COLUMNS: u32 = 8192;
-
 /// Wavelet levels across, of which there is one at least.
 pub const MOST_ACROSS: u8 = 5;
 /// Wavelet levels down.

@@ -94,7 +94,6 @@ abbrev pub precinct_text : PrecinctFault → List ℕ
 precinct_text precinct.Truncated = codes "truncated"
 precinct_text (precinct.Overrun packet part) = codes "packet " ++ decimal packet ++ codes " overrun " ++ part_name part
 precinct_text (precinct.Count packet value) = codes "packet " ++ decimal packet ++ codes " count " ++ decimal value
-precinct_text (precinct.Unbuilt packet) = codes "packet " ++ decimal packet ++ codes " unbuilt"
 precinct_text precinct.Memory = []
 
 abbrev pub slice_text : SliceFault → List ℕ

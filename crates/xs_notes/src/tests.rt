@@ -81,10 +81,6 @@ fn lines(rt: HostRuntime) -> Result<(), Fail> {
         precinct: 0,
         fault: data,
     };
-    let unbuilt = SliceFault::Precinct {
-        precinct: 0,
-        fault: PrecinctFault::Unbuilt { packet: 0 },
-    };
     let trailing = SliceFault::Trailing { place: 7 };
     let rows = [
         (Note::Words { place: 0 }, "words 0\n"),
@@ -166,14 +162,6 @@ fn lines(rt: HostRuntime) -> Result<(), Fail> {
                 fault: overrun,
             },
             "damaged picture 0 slice 0 precinct 0 packet 0 overrun data\n",
-        ),
-        (
-            Note::DamagedSlice {
-                picture: 0,
-                slice: 0,
-                fault: unbuilt,
-            },
-            "damaged picture 0 slice 0 precinct 0 packet 0 unbuilt\n",
         ),
         (
             Note::DamagedSlice {

@@ -128,7 +128,6 @@ impl fmt::Display for PrecinctText {
                 write!(f, "packet {packet} overrun {}", part_name(part))
             }
             PrecinctFault::Count { packet, value } => write!(f, "packet {packet} count {value}"),
-            PrecinctFault::Unbuilt { packet } => write!(f, "packet {packet} unbuilt"),
             PrecinctFault::Memory => Ok(()),
         }
     }

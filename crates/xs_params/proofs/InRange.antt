@@ -12,10 +12,10 @@ use Rattle.xs_layout.specs.declared.Format.{Format}
 use Rattle.xs_layout.specs.declared.Format.TheVariants.{Mono, C422, C444}
 use Rattle.xs_layout.specs.declared.Weight.{Weight}
 use Rattle.xs_params.specs.declared.settings.Settings.{Settings}
-use Rattle.xs_layout.specs.Limits.{least_width, most_width, least_height, most_height, most_area, is_depth, IsDepth, most_columns, is_precision, IsPrecision, most_across, most_down, most_slices, most_gain, least_chunk, most_chunk, least_share, most_share, header_room, most_stream, least_payload_type, most_payload_type, most_first_timestamp, most_step, most_boxes, most_workers, most_feeders, most_port}
+use Rattle.xs_layout.specs.Limits.{least_width, most_width, least_height, most_height, most_area, is_depth, IsDepth, is_precision, IsPrecision, most_across, most_down, most_slices, most_gain, least_chunk, most_chunk, least_share, most_share, header_room, most_stream, least_payload_type, most_payload_type, most_first_timestamp, most_step, most_boxes, most_workers, most_feeders, most_port}
 use Rattle.xs_lists.specs.Packing.{AreBytes}
-use Rattle.xs_params.specs.Picture.{IsShape, columns_of_all}
-use Rattle.xs_params.specs.Check.{are_together, is_share, is_outside, is_c444, bands_of_settings, slices_of_settings, are_boxes, weights_fault, shape_refusals, layout_refusals, band_refusals, packet_refusals, thread_refusals, port_refusals, IsChecked, AreWeights, AreInRange}
+use Rattle.xs_params.specs.Picture.{IsShape}
+use Rattle.xs_params.specs.Check.{is_share, is_outside, is_c444, bands_of_settings, slices_of_settings, are_boxes, weights_fault, shape_refusals, layout_refusals, band_refusals, packet_refusals, thread_refusals, port_refusals, IsChecked, AreWeights, AreInRange}
 use Rattle.xs_params.specs.declared.settings.Setting.{Setting}
 use Rattle.xs_layout.specs.declared.Shape.{Shape}
 use Rattle.xs_params.proofs.Boxes.{boxes_told}
@@ -86,22 +86,14 @@ weights_in bands (Some weights) e =
           All-weaker (λ (w : Weight). is_bad bands w ≡ false) (λ (w : Weight). w.priority < bands) (λ w p. leb-false bands w.priority (or_parts (nat_lt most_gain w.gain) (nat_le bands w.priority) p).1) weights good;
     }
 
-record InShape (shape : Shape) : Type 0 where
-  is_shape : IsShape shape
-  together : columns_of_all shape ≤ most_columns
-
-shape_in : (shape : Shape) → AllByRecursion (λ (row : Bool × Setting). row.0 ≡ false) (shape_refusals shape) → InShape shape
+shape_in : (shape : Shape) → AllByRecursion (λ (row : Bool × Setting). row.0 ≡ false) (shape_refusals shape) → IsShape shape
 shape_in shape rows =
-    let widths = or_parts (is_outside least_width most_width shape.width) (not (are_together shape)) rows.0 in
     let heights = or_parts (is_outside least_height most_height shape.height) (nat_lt most_area (shape.width * shape.height)) rows.1.0 in
     record {
-      is_shape = record {
-        width = inside least_width most_width shape.width widths.0;
-        height = inside least_height most_height shape.height heights.0;
-        area = ltb-false most_area (shape.width * shape.height) heights.1;
-        depth = one_of_three shape.depth rows.1.1.0;
-      };
-      together = leb-true (columns_of_all shape) most_columns (not-false (are_together shape) widths.1);
+      width = inside least_width most_width shape.width rows.0;
+      height = inside least_height most_height shape.height heights.0;
+      area = ltb-false most_area (shape.width * shape.height) heights.1;
+      depth = one_of_three shape.depth rows.1.1.0;
     }
 
 pub record InLayout (s : Settings) : Type 0 where
@@ -160,8 +152,7 @@ in_range s bytes checked =
     let boxes = or_parts (nat_lt most_boxes (length s.boxes)) (not (are_boxes 0 s.boxes)) packets.1.1.1.1.1.0 in
     let few = ltb-false most_boxes (length s.boxes) boxes.0 in
     record {
-      shape = shape.is_shape;
-      together = shape.together;
+      shape = shape;
       bits = layout.bits;
       nlx = layout.nlx;
       narrow = layout.narrow;

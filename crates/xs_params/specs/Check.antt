@@ -10,10 +10,10 @@ use Rattle.xs_layout.specs.declared.Format.{Format}
 use Rattle.xs_layout.specs.declared.Format.TheVariants.{Mono, C422, C444}
 use Rattle.xs_layout.specs.declared.Shape.{Shape}
 use Rattle.xs_layout.specs.declared.Weight.{Weight}
-use Rattle.xs_layout.specs.Limits.{least_width, most_width, least_height, most_height, most_area, is_depth, most_columns, is_precision, IsPrecision, most_across, most_down, most_slices, most_gain, least_chunk, most_chunk, least_share, most_share, header_room, most_stream, least_payload_type, most_payload_type, most_first_timestamp, most_step, most_boxes, most_workers, most_feeders, most_port}
+use Rattle.xs_layout.specs.Limits.{least_width, most_width, least_height, most_height, most_area, is_depth, is_precision, IsPrecision, most_across, most_down, most_slices, most_gain, least_chunk, most_chunk, least_share, most_share, header_room, most_stream, least_payload_type, most_payload_type, most_first_timestamp, most_step, most_boxes, most_workers, most_feeders, most_port}
 use Rattle.xs_lists.specs.Packing.{AreBytes}
 use Rattle.xs_params.specs.Boxes.{AreBoxes}
-use Rattle.xs_params.specs.Picture.{IsShape, columns_of_all}
+use Rattle.xs_params.specs.Picture.{IsShape}
 use Rattle.xs_params.specs.declared.settings.Settings.{Settings}
 use Rattle.xs_params.specs.declared.settings.Setting.{Setting}
 use Rattle.xs_params.specs.declared.settings.Field.{Field}
@@ -48,10 +48,6 @@ are_boxes zero (byte ∷ bytes) = nat_le 8 (word_at (byte ∷ bytes) 0) && are_b
 are_boxes (suc left) [] = false
 are_boxes (suc left) (byte ∷ bytes) = are_boxes left bytes
 
--- the components have so few columns together that what a packet has fits its fields at (0, 0), which is all that is tried of a slice
-abbrev pub are_together : Shape → Bool
-are_together shape = nat_le (columns_of_all shape) most_columns
-
 -- a slice may have so many bytes: its packets are enough, and the length of the codestream has room in its field
 abbrev pub is_share : Settings → Bool
 is_share s = not (is_outside least_share (most_share s.chunk) s.share) && nat_le (slices_of_settings s * s.share + header_room) most_stream
@@ -62,7 +58,7 @@ refused field value = record { field = field; value = value }
 -- width, height and depth
 abbrev pub shape_refusals : Shape → List (Bool × Setting)
 shape_refusals shape =
-    (is_outside least_width most_width shape.width || not (are_together shape), refused field_of.Width shape.width)
+    (is_outside least_width most_width shape.width, refused field_of.Width shape.width)
     ∷ (is_outside least_height most_height shape.height || nat_lt most_area (shape.width * shape.height), refused field_of.Height shape.height)
     ∷ (not (is_depth shape.depth), refused field_of.Depth shape.depth)
     ∷ []
@@ -125,7 +121,6 @@ pub record AreWeights (bands : ℕ) (weights : List Weight) : Type 0 where
 -- each setting is in its range
 pub record AreInRange (s : Settings) : Type 0 where
   pub shape : IsShape s.shape
-  pub together : columns_of_all s.shape ≤ most_columns
   pub bits : IsPrecision s.bits
   pub nlx : (1 ≤ s.nlx) × (s.nlx ≤ most_across)
   pub narrow : 2 ^ s.nlx ≤ narrowest_width s.shape.format s.shape.width

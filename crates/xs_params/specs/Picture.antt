@@ -21,10 +21,6 @@ pub record IsShape (shape : Shape) : Type 0 where
 abbrev pub width_of : Shape → ℕ → ℕ
 width_of shape component = component_width_of shape.format shape.width component
 
--- the columns of all components
-abbrev pub columns_of_all : Shape → ℕ
-columns_of_all shape = sum_by (width_of shape) (upto (components_of shape.format))
-
 -- the samples of a component
 abbrev pub plane_size : Shape → ℕ → ℕ
 plane_size shape component = width_of shape component * shape.height

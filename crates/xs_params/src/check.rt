@@ -5,10 +5,10 @@ ghost use Rattle.xs_lists.specs.First.{first_of};
 ghost use Rattle.xs_lists.specs.Packing.{AreBytes};
 ghost use Rattle.xs_lists.specs.Fields.{word_at};
 ghost use Rattle.xs_layout.specs.Geometry.{band_count_of, components_of, narrowest_width};
-ghost use Rattle.xs_layout.specs.Limits.{least_chunk, most_across, most_chunk, most_down, most_gain, most_width};
+ghost use Rattle.xs_layout.specs.Limits.{least_chunk, most_across, most_chunk, most_down, most_gain};
 ghost use Rattle.xs_layout.specs.Weighting.{default_weights_of};
 ghost use Rattle.xs_params.specs.Accepted.{IsAccepted};
-ghost use Rattle.xs_params.specs.Check.{AreInRange, AreWeights, are_boxes, are_together, BoxesTold, bands_of_settings, band_refusals, IsChecked, is_outside, is_share, layout_refusals, packet_refusals, port_refusals, refused, setting_refusals, shape_refusals, slices_of_settings, thread_refusals, weights_fault};
+ghost use Rattle.xs_params.specs.Check.{AreInRange, AreWeights, are_boxes, BoxesTold, bands_of_settings, band_refusals, IsChecked, is_outside, is_share, layout_refusals, packet_refusals, port_refusals, refused, setting_refusals, shape_refusals, slices_of_settings, thread_refusals, weights_fault};
 ghost use Rattle.xs_params.specs.Headers.{header_of};
 
 use crate::header::{Header, Weights, default_weights};
@@ -19,9 +19,9 @@ use std::marker::Model;
 use xs_io::Memory;
 use xs_layout::limits::{
     HEADER_ROOM, LEAST_CHUNK, LEAST_HEIGHT, LEAST_PAYLOAD_TYPE, LEAST_SHARE, LEAST_WIDTH,
-    MOST_ACROSS, MOST_AREA, MOST_BOXES, MOST_CHUNK, MOST_COLUMNS, MOST_DOWN, MOST_FEEDERS,
-    MOST_FIRST_TIMESTAMP, MOST_GAIN, MOST_HEIGHT, MOST_PACKETS, MOST_PAYLOAD_TYPE, MOST_PORT,
-    MOST_SLICES, MOST_STEP, MOST_STREAM, MOST_WIDTH, MOST_WORKERS,
+    MOST_ACROSS, MOST_AREA, MOST_BOXES, MOST_CHUNK, MOST_DOWN, MOST_FEEDERS, MOST_FIRST_TIMESTAMP,
+    MOST_GAIN, MOST_HEIGHT, MOST_PACKETS, MOST_PAYLOAD_TYPE, MOST_PORT, MOST_SLICES, MOST_STEP,
+    MOST_STREAM, MOST_WIDTH, MOST_WORKERS,
 };
 use xs_layout::{Format, Shape, Weight, ceil_div, fq_of, is_depth, is_precision};
 
@@ -217,7 +217,7 @@ impl Settings {
 fn shape_refusal(shape: &Shape) -> Option<Setting>
     ensures { result ≡ first_of (shape_refusals shape.now) }
 {
-    if is_outside(LEAST_WIDTH, MOST_WIDTH, shape.width) || !are_together(shape) {
+    if is_outside(LEAST_WIDTH, MOST_WIDTH, shape.width) {
         return Some(refused(Field::Width, u64::from(shape.width)));
     }
     let area = u64::from(shape.width) * u64::from(shape.height);
@@ -228,16 +228,6 @@ fn shape_refusal(shape: &Shape) -> Option<Setting>
         return Some(refused(Field::Depth, u64::from(shape.depth)));
     }
     None
-}
-
-/// Whether the components have so few columns together that what a packet has fits its fields, though nothing is cut
-/// off.
-fn are_together(shape: &Shape) -> bool
-    requires { shape.now.width ≤ most_width }
-    ensures { result ≡ are_together shape.now }
-{
-    let others = (shape.format.components() - 1) * component_width(shape, 1);
-    shape.width + others <= MOST_COLUMNS
 }
 
 fn thread_refusal(workers: u8, feeders: u8) -> Option<Setting>
