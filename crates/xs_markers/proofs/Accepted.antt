@@ -1,16 +1,27 @@
--- The values that are accepted.
-use Rattle.std.proofs.Common.{◌≡◌, ℕ, ◌*◌, ◌^◌, ◌≤◌, min, max, false, not, nat_eq, nat_lt, List, None, length, refl, sym, ap, subst, arith, inl, inr}
-use Rattle.std.proofs.Math.Pow.{pow_mono}
-use Rattle.std.proofs.lemmas.Bool.{false≢true, ltb-true, lt-ltb, eqb-true, not_from_true, or_cases}
-use Rattle.xs_lists.specs.Fields.{field}
+-- The values of a picture header that are accepted.
+use Rattle.std.proofs.Common.{◌≡◌, ℕ, ◌*◌, ◌≤◌, ◌⊎◌, min, max, false, not, ◌&&◌, ◌||◌, nat_eq, nat_lt, None, ap, ◌∙◌, arith, inl, inr}
+use Rattle.std.proofs.lemmas.Bool.{ltb-true, lt-ltb, eqb-true, not_from_true, or_cases, and_parts}
 use Rattle.xs_layout.specs.Geometry.{slice_count_of}
-use Rattle.xs_layout.specs.Limits.{least_width, most_width, least_height, most_height, most_area, is_precision, IsPrecision, fq_of, most_across, most_down, most_slices}
-use Rattle.xs_layout.specs.declared.Weight.{Weight}
-use Rattle.xs_params.specs.Accepted.{IsAccepted}
+use Rattle.xs_layout.specs.Limits.{least_width, most_width, least_height, most_height, most_area, IsPrecision, fq_of, most_across, most_down, most_slices, most_run_mode}
 use Rattle.xs_markers.specs.declared.picture.PictureFields.{PictureFields}
-use Rattle.xs_markers.specs.Reading.{bands_of_fields, header_of_fields}
-use Rattle.xs_markers.specs.Values.{byte_at, fields_fault, picture_rules, component_rules}
-use Rattle.xs_markers.proofs.Refusals.{none_refused, refused_none, is_passed, is_equal, equal_is, is_within, within_is}
+use Rattle.xs_markers.specs.Seen.{IsLimited}
+use Rattle.xs_markers.specs.Values.{fields_fault, picture_rules}
+use Rattle.xs_markers.proofs.Refusals.{none_refused, refused_none, is_passed, is_equal, equal_is, is_within, within_is, is_either, either_is}
+
+-- the colour transform, which wants three components
+abbrev pub IsColour : ℕ → ℕ → Type 0
+IsColour cpih nc = (cpih ≡ 0) ⊎ ((cpih ≡ 1) × (nc ≡ 3))
+
+is_colour : (cpih nc : ℕ) → not (nat_eq cpih 0 || (nat_eq cpih 1 && nat_eq nc 3)) ≡ false → IsColour cpih nc
+is_colour cpih nc e = elim (or_cases (nat_eq cpih 0) (nat_eq cpih 1 && nat_eq nc 3) (is_passed _ e)) [
+  | inl none ↦ inl (eqb-true cpih 0 none)
+  | inr both ↦ let parts = and_parts (nat_eq cpih 1) (nat_eq nc 3) both in inr (eqb-true cpih 1 parts.0, eqb-true nc 3 parts.1)
+]
+
+colour_is : (cpih nc : ℕ) → IsColour cpih nc → not (nat_eq cpih 0 || (nat_eq cpih 1 && nat_eq nc 3)) ≡ false
+colour_is cpih nc (inl none) = ap (λ n. not (nat_eq n 0 || (nat_eq n 1 && nat_eq nc 3))) none
+colour_is cpih nc (inr both) =
+    ap (λ n. not (nat_eq n 0 || (nat_eq n 1 && nat_eq nc 3))) both.0 ∙ ap (λ n. not (nat_eq n 3)) both.1
 
 -- each field of the picture header has a value that is taken
 pub record Taken (p : PictureFields) : Type 0 where
@@ -19,7 +30,7 @@ pub record Taken (p : PictureFields) : Type 0 where
   pub area : p.wf * p.hf ≤ most_area
   pub cw : p.cw ≡ 0
   pub hsl : 1 ≤ p.hsl
-  pub nc : p.nc ≡ 1
+  pub nc : (p.nc ≡ 1) ⊎ (p.nc ≡ 3)
   pub ng : p.ng ≡ 4
   pub ss : p.ss ≡ 8
   pub bw : IsPrecision p.bw
@@ -27,21 +38,13 @@ pub record Taken (p : PictureFields) : Type 0 where
   pub br : p.br ≡ 4
   pub fslc : p.fslc ≡ 0
   pub ppoc : p.ppoc ≡ 0
-  pub cpih : p.cpih ≡ 0
+  pub cpih : IsColour p.cpih p.nc
   pub nlx : (1 ≤ p.nlx) × (p.nlx ≤ most_across)
   pub nly : p.nly ≤ min most_down p.nlx
   pub slices : slice_count_of p.hf p.nly (max 1 p.hsl) ≤ most_slices
-  pub qpih : p.qpih ≡ 0
-  pub fs : p.fs ≡ 0
-  pub rm : p.rm ≡ 0
-
--- the test of the precision
-is_precise : (bw : ℕ) → not (is_precision bw) ≡ false → IsPrecision bw
-is_precise bw e = elim (or_cases (nat_eq bw 18) (nat_eq bw 20) (is_passed (is_precision bw) e)) [ inl low ↦ inl (eqb-true bw 18 low) | inr high ↦ inr (eqb-true bw 20 high) ]
-
-precise_is : (bw : ℕ) → IsPrecision bw → not (is_precision bw) ≡ false
-precise_is bw (inl low) = ap (λ n. not (is_precision n)) low
-precise_is bw (inr high) = ap (λ n. not (is_precision n)) high
+  pub qpih : p.qpih ≤ 1
+  pub fs : p.fs ≤ 1
+  pub rm : p.rm ≤ most_run_mode
 
 pub taken_fields : (p : PictureFields) → fields_fault (picture_rules p) ≡ None → Taken p
 taken_fields p e =
@@ -55,88 +58,97 @@ taken_fields p e =
       area = (is_within _ _ _ all.1.1.0).1;
       cw = is_equal _ _ all.1.1.1.0;
       hsl = ltb-true 0 p.hsl (is_passed _ all.1.1.1.1.0);
-      nc = is_equal _ _ second.0;
+      nc = is_either p.nc 1 3 second.0;
       ng = is_equal _ _ second.1.0;
       ss = is_equal _ _ second.1.1.0;
-      bw = is_precise _ second.1.1.1.0;
+      bw = is_either p.bw 18 20 second.1.1.1.0;
       fq = is_equal _ _ second.1.1.1.1.0;
       br = is_equal _ _ third.0;
       fslc = is_equal _ _ third.1.0;
       ppoc = is_equal _ _ third.1.1.0;
-      cpih = is_equal _ _ third.1.1.1.0;
+      cpih = is_colour p.cpih p.nc third.1.1.1.0;
       nlx = is_within _ _ _ third.1.1.1.1.0;
       nly = (is_within _ _ _ fourth.0).1;
       slices = (is_within _ _ _ fourth.1.0).1;
-      qpih = is_equal _ _ fourth.1.1.0;
-      fs = is_equal _ _ fourth.1.1.1.0;
-      rm = is_equal _ _ fourth.1.1.1.1.0;
+      qpih = (is_within _ _ _ fourth.1.1.0).1;
+      fs = (is_within _ _ _ fourth.1.1.1.0).1;
+      rm = (is_within _ _ _ fourth.1.1.1.1.0).1;
     }
 
 pub fields_taken : (p : PictureFields) → Taken p → fields_fault (picture_rules p) ≡ None
-unfolding fields_fault
 fields_taken p t =
-    rw (
+    refused_none (picture_rules p) (
       within_is least_width most_width p.wf t.wf.0 t.wf.1,
-      within_is least_height most_height p.hf t.hf.0 t.hf.1,
-      within_is 0 most_area (p.wf * p.hf) (omega arith) t.area,
-      equal_is p.cw 0 t.cw,
-      not_from_true (nat_lt 0 p.hsl) (lt-ltb 0 p.hsl t.hsl),
-      equal_is p.nc 1 t.nc,
-      equal_is p.ng 4 t.ng,
-      equal_is p.ss 8 t.ss,
-      precise_is p.bw t.bw,
-      equal_is p.fq (fq_of p.bw) t.fq,
-      equal_is p.br 4 t.br,
-      equal_is p.fslc 0 t.fslc,
-      equal_is p.ppoc 0 t.ppoc,
-      equal_is p.cpih 0 t.cpih,
-      within_is 1 most_across p.nlx t.nlx.0 t.nlx.1,
-      within_is 0 (min most_down p.nlx) p.nly (omega arith) t.nly,
-      within_is 0 most_slices (slice_count_of p.hf p.nly (max 1 p.hsl)) (omega arith) t.slices,
-      equal_is p.qpih 0 t.qpih,
-      equal_is p.fs 0 t.fs,
-      equal_is p.rm 0 t.rm,
-    ) refl
-
--- each field of the component has
-pub record TakenComponent (body : List ℕ) : Type 0 where
-  pub bc : byte_at body 0 ≡ 8
-  pub sx : field 4 4 (byte_at body 1) ≡ 1
-  pub sy : field 4 0 (byte_at body 1) ≡ 1
-
-pub taken_component : (body : List ℕ) → fields_fault (component_rules body) ≡ None → TakenComponent body
-taken_component body e =
-    let all = none_refused (component_rules body) e in
-    record { bc = is_equal _ _ all.0; sx = is_equal _ _ all.1.0; sy = is_equal _ _ all.1.1.0 }
-
-pub component_taken : (body : List ℕ) → TakenComponent body → fields_fault (component_rules body) ≡ None
-component_taken body t =
-    refused_none (component_rules body) (
-      equal_is (byte_at body 0) 8 t.bc,
-      (equal_is (field 4 4 (byte_at body 1)) 1 t.sx, (equal_is (field 4 0 (byte_at body 1)) 1 t.sy, tt)),
+      (
+        within_is least_height most_height p.hf t.hf.0 t.hf.1,
+        (
+          within_is 0 most_area (p.wf * p.hf) (omega arith) t.area,
+          (
+            equal_is p.cw 0 t.cw,
+            (
+              not_from_true (nat_lt 0 p.hsl) (lt-ltb 0 p.hsl t.hsl),
+              (
+                either_is p.nc 1 3 t.nc,
+                (
+                  equal_is p.ng 4 t.ng,
+                  (
+                    equal_is p.ss 8 t.ss,
+                    (
+                      either_is p.bw 18 20 t.bw,
+                      (
+                        equal_is p.fq (fq_of p.bw) t.fq,
+                        (
+                          equal_is p.br 4 t.br,
+                          (
+                            equal_is p.fslc 0 t.fslc,
+                            (
+                              equal_is p.ppoc 0 t.ppoc,
+                              (
+                                colour_is p.cpih p.nc t.cpih,
+                                (
+                                  within_is 1 most_across p.nlx t.nlx.0 t.nlx.1,
+                                  (
+                                    within_is 0 (min most_down p.nlx) p.nly (omega arith) t.nly,
+                                    (
+                                      within_is 0 most_slices (slice_count_of p.hf p.nly (max 1 p.hsl)) (omega arith) t.slices,
+                                      (
+                                        within_is 0 1 p.qpih (omega arith) t.qpih,
+                                        (
+                                          within_is 0 1 p.fs (omega arith) t.fs,
+                                          (
+                                            within_is 0 most_run_mode p.rm (omega arith) t.rm,
+                                            tt,
+                                          ),
+                                        ),
+                                      ),
+                                    ),
+                                  ),
+                                ),
+                              ),
+                            ),
+                          ),
+                        ),
+                      ),
+                    ),
+                  ),
+                ),
+              ),
+            ),
+          ),
+        ),
+      ),
     )
 
--- The header of such fields
+-- there are few levels and components
+pub limited_fields : (p : PictureFields) → fields_fault (picture_rules p) ≡ None → IsLimited p
+limited_fields p e =
+    let t = taken_fields p e in
+    record {
+      across = t.nlx.1;
+      down = omega (arith, t.nly);
+      components = elim t.nc [ inl one ↦ omega (arith, one) | inr three ↦ omega (arith, three) ];
+    }
 
 -- the number of slices of such a height
 pub slices_same : (height nly hsl : ℕ) → 1 ≤ hsl → slice_count_of height nly hsl ≡ slice_count_of height nly (max 1 hsl)
 slices_same height nly hsl some = let same : hsl ≡ max 1 hsl = omega (arith, some) in ap (slice_count_of height nly) same
-
--- no row refuses, and there are so many weights as bands: the header is accepted
-pub rules_accept : (p : PictureFields) (weights : List Weight) → fields_fault (picture_rules p) ≡ None → length weights ≡ bands_of_fields p → IsAccepted (header_of_fields p weights)
-rules_accept p weights e count =
-    let t = taken_fields p e in
-    record {
-      geometry = record {
-        shape = record { width = t.wf; height = t.hf; area = t.area; depth = inl refl };
-        hsl = t.hsl;
-        nlx = t.nlx;
-        nly = t.nly;
-        slices = subst (λ n. n ≤ most_slices) (sym (slices_same p.hf p.nly p.hsl t.hsl)) t.slices;
-        narrow = let few : 2 ^ p.nlx ≤ 2 ^ 5 = pow_mono t.nlx.1 in omega (arith, few, t.wf.0);
-      };
-      bits = (t.bw, t.fq);
-      colour = λ e. absurd (false≢true e);
-      run_mode = omega (arith, t.rm);
-      weights = omega (arith, count);
-    }

@@ -1,10 +1,11 @@
 -- The bits of the bodies of a header's segments are those of the fields that are read.
-use Rattle.std.proofs.Common.{◌≡◌, ℕ, ◌+◌, List, [], ◌∷◌, ◌++◌, length, drop, sym, ap, ◌∙◌, arith, append_assoc, append-nil}
+use Rattle.std.specs.List.{flat_map, range_with_len}
+use Rattle.std.proofs.Common.{◌≡◌, ℕ, zero, suc, ◌+◌, ◌*◌, List, [], ◌∷◌, ◌++◌, length, drop, sym, ap, ◌∙◌, arith, append_assoc, append-nil}
 use Rattle.std.proofs.lemmas.List.{drop_all}
 use Rattle.xs_lists.specs.Bits.{bits_of, bits_of_bytes, bits_of_fields, FieldsFit}
 use Rattle.xs_lists.specs.Fields.{field, half_word_at, word_at}
 use Rattle.xs_lists.proofs.FieldBits.{bits_of-field, bits_of-low}
-use Rattle.xs_markers.specs.Values.{byte_at}
+use Rattle.xs_markers.specs.Values.{byte_at, depth_at, across_at, down_at}
 use Rattle.xs_markers.proofs.Cut.{IsBytes, word_here, half_word_here, byte_here, word_small, half_word_small}
 
 -- all fields of a picture header, those too that have no effect
@@ -19,8 +20,12 @@ picture_read body =
     ∷ (1, field 1 7 (byte_at body 23)) ∷ (1, field 1 6 (byte_at body 23)) ∷ (2, field 2 4 (byte_at body 23)) ∷ (2, field 2 2 (byte_at body 23)) ∷ (2, field 2 0 (byte_at body 23))
     ∷ []
 
-abbrev pub component_read : List ℕ → List (ℕ × ℕ)
-component_read body = (8, byte_at body 0) ∷ (4, field 4 4 (byte_at body 1)) ∷ (4, field 4 0 (byte_at body 1)) ∷ []
+-- the fields of a component, and of so many components from one on
+abbrev pub component_at : List ℕ → ℕ → List (ℕ × ℕ)
+component_at body component = (8, depth_at body component) ∷ (4, across_at body component) ∷ (4, down_at body component) ∷ []
+
+abbrev pub components_from : List ℕ → ℕ → ℕ → List (ℕ × ℕ)
+components_from body first count = flat_map (component_at body) (range_with_len first count)
 
 -- Fields of a byte, and what follows them
 
@@ -107,12 +112,19 @@ picture_room body small size =
 
 -- The components
 
-pub component_bits : (body : List ℕ) → length body ≡ 2 → bits_of_bytes body ≡ bits_of_fields (component_read body)
-component_bits body size =
-    let none : bits_of_bytes (drop 2 body) ≡ [] = ap bits_of_bytes (drop_all 2 body (omega (arith, size))) in
-    byte_here body 0 (omega (arith, size))
-    ∙ before 8 (byte_at body 0) _ _ (byte_here body 1 (omega (arith, size)) ∙ nibbles (byte_at body 1) (bits_of_bytes (drop 2 body))
-    ∙ before 4 (field 4 4 (byte_at body 1)) _ _ (before 4 (field 4 0 (byte_at body 1)) _ _ none))
+components_rest : (body : List ℕ) (first count : ℕ) → length body ≡ 2 * (first + count) → bits_of_bytes (drop (2 * first) body) ≡ bits_of_fields (components_from body first count)
+components_rest body first zero size = ap bits_of_bytes (drop_all (2 * first) body (omega (arith, size)))
+components_rest body first (suc count) size =
+    let next : 2 * first + 1 + 1 ≡ 2 * (first + 1) = omega arith in
+    let rest = components_rest body (first + 1) count (omega (arith, size)) in
+    byte_here body (2 * first) (omega (arith, size))
+    ∙ before 8 (depth_at body first) _ _ (byte_here body (2 * first + 1) (omega (arith, size)) ∙ nibbles (byte_at body (2 * first + 1)) (bits_of_bytes (drop (2 * first + 1 + 1) body))
+    ∙ before 4 (across_at body first) _ _ (before 4 (down_at body first) _ _ (ap (λ n. bits_of_bytes (drop n body)) next ∙ rest)))
 
-pub component_room : (body : List ℕ) → IsBytes body → FieldsFit (component_read body)
-component_room body small = omega (arith, small 0, small 1)
+pub components_bits : (body : List ℕ) (count : ℕ) → length body ≡ 2 * count → bits_of_bytes body ≡ bits_of_fields (components_from body 0 count)
+components_bits body count size = components_rest body 0 count (omega (arith, size))
+
+pub components_room : (body : List ℕ) (first count : ℕ) → IsBytes body → FieldsFit (components_from body first count)
+components_room body first zero small = tt
+components_room body first (suc count) small =
+    (small (2 * first), (omega arith, (omega arith, components_room body (first + 1) count small)))

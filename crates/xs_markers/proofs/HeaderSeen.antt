@@ -1,336 +1,231 @@
--- Nothing is refused of a header that is read.
+-- Nothing is refused of a header.
 use Rattle.std.specs.Prelude.{◌⊎◌}
-use Rattle.std.proofs.Common.{◌≡◌, ℕ, ◌+◌, ◌*◌, ◌≤◌, min, max, List, [], ◌∷◌, ◌++◌, map, length, take, drop, get_or, refl, sym, ap, subst, ◌∙◌, arith, append_assoc, length-append, length-drop, inl, inr}
+use Rattle.std.proofs.Common.{◌≡◌, ℕ, ◌+◌, ◌-◌, ◌^◌, ◌<◌, ◌≤◌, Bool, true, false, not, ◌&&◌, nat_eq, nat_le, if◌then◌else◌, List, [], ◌∷◌, ◌++◌, length, take, drop, None, Ok, refl, sym, ap, subst, ◌∙◌, arith, append_assoc, length-append, inl, inr}
 use Rattle.std.specs.Int.{from_be_bytes, w16}
-use Rattle.std.specs.List.{flat_map}
-use Rattle.std.proofs.lemmas.List.{take-append-drop, length-take-le}
-use Rattle.xs_lists.specs.Bits.{bit_of, bits_of_fields, FieldsFit}
-use Rattle.xs_lists.specs.Fields.{field, half_word_at}
+use Rattle.std.specs.List.{flat_map, AllByRecursion}
+use Rattle.std.proofs.lemmas.List.{take-append-drop, drop_at, drop-drop, drop_all, take_at, length-drop}
+use Rattle.std.proofs.lemmas.Bool.{le-leb, lt-leb, eq-eqb, false≢true, or_from, or_left, or_right, and_from}
+use Rattle.xs_lists.specs.Fields.{half_word_at}
 use Rattle.xs_lists.specs.Spelling.{BeginsWith}
-use Rattle.xs_lists.proofs.Bits.{length-bits_of_bytes}
-use Rattle.xs_lists.proofs.Cut.{fields_agree}
-use Rattle.xs_layout.specs.Geometry.{components_of, slice_count_of}
-use Rattle.xs_layout.specs.Limits.{least_width, most_width, least_height, most_height, most_area, IsPrecision, fq_of, most_across, most_down, most_slices}
 use Rattle.xs_params.specs.declared.header.Header.{Header}
-use Rattle.xs_grammar.specs.Header.{Segment, segment_bytes, cap_code, pih_code, cdt_code, wgt_code, quant_code, picture_fields, component_fields, weight_fields, IsSegment, AreSegmentsOf, IsHeaderFront}
+use Rattle.xs_params.specs.Accepted.{IsAccepted}
 use Rattle.xs_params.specs.Markers.{soc, slh}
-use Rattle.xs_params.specs.Accepted.{IsAccepted, IsGeometry}
-use Rattle.xs_grammar.proofs.Coded.{length-widths}
-use Rattle.xs_decoding.specs.Built.{HasBuiltValues, IsBuiltHeader}
-use Rattle.xs_markers.specs.Reading.{slh_code, segment_body_at, picture_fields_of, picture_at, bands_of_fields, end_of}
-use Rattle.xs_markers.specs.Values.{byte_at}
-use Rattle.xs_markers.proofs.Bodies.{fields_of, weights_widths}
+use Rattle.xs_grammar.specs.Header.{Segment, segment_bytes, is_stepped_over, IsHeader, IsHeaderFront, AreSegmentsOf, cap_code, com_code, crg_code}
+use Rattle.xs_grammar.specs.Laws.{FollowsHeader}
+use Rattle.xs_grammar.proofs.OneHeader.{one_header}
+use Rattle.xs_markers.specs.declared.kinds.Kind.{Kind}
+use Rattle.xs_markers.specs.declared.kinds.Kind.TheVariants as kind
+use Rattle.xs_markers.specs.declared.seen.Seen.{Seen}
+use Rattle.xs_markers.specs.Reading.{is_end, end_fault, segments_from, head_fault, header_at, header_end}
+use Rattle.xs_markers.specs.Segments.{soc_code, slh_code, segment_code, segment_kind, segment_size, segment_body, segment_end, kind_of, kind_fault, is_size, rules_of, with_segment, nothing_seen}
+use Rattle.xs_markers.specs.Values.{fields_fault}
 use Rattle.xs_markers.proofs.Cut.{IsBytes, piece_bytes}
-use Rattle.xs_markers.proofs.FieldsRead.{picture_read, picture_bits, picture_room, component_read, component_bits, component_room}
-use Rattle.xs_markers.proofs.Segments.{IsCodeAt, IsSegmentAt, segment_seen}
-use Rattle.xs_markers.proofs.Accepted.{Taken, TakenComponent, fields_taken, component_taken, slices_same}
-use Rattle.xs_markers.proofs.Unrefused.{IsUnrefused}
+use Rattle.xs_markers.proofs.Fine.{IsFine, fine_segment}
+use Rattle.xs_markers.proofs.HeaderRead.{header_spelled, fault_from}
+use Rattle.xs_markers.proofs.KindsTold.{IsOfKind, kind_told, stepped_is}
+use Rattle.xs_markers.proofs.Left.{AreGiven, AreLeftOf, MayCome, stepped_comes, table_comes_of, NoneLeft, none_left}
+use Rattle.xs_markers.proofs.OneStep.{step_end, step_on, started, there_start}
+use Rattle.xs_markers.proofs.Pieces.{segment_body_at, IsSegmentAt, segment_seen}
+use Rattle.xs_markers.proofs.Tables.{kept}
 
-abbrev segment : ℕ → List ℕ → Segment
-segment code body = record { code = code; body = body }
+-- from a place on the bytes are read to the end of a header
+pub record IsReadFrom (steps : ℕ) (bytes : List ℕ) (place : ℕ) (seen : Seen) : Type 0 where
+  pub found : Seen × ℕ
+  pub same : segments_from steps bytes place seen ≡ Ok found
+  pub no_fault : end_fault bytes found.0 found.1 ≡ None
 
--- the segments of a header, by their bodies
-abbrev segments_of : List ℕ → List ℕ → List ℕ → List Segment
-segments_of picture component weights = segment cap_code [] ∷ segment pih_code picture ∷ segment cdt_code component ∷ segment wgt_code weights ∷ []
+-- The end
 
--- three segments by their codes
-three : (rest : List Segment) (a b c : ℕ) → map (λ (s : Segment). s.code) rest ≡ a ∷ b ∷ c ∷ []
-    → (x : List ℕ) × (y : List ℕ) × (z : List ℕ) × (rest ≡ segment a x ∷ segment b y ∷ segment c z ∷ [])
-three [] a b c e = absurd (omega (arith, ap length e))
-three (s ∷ []) a b c e = absurd (omega (arith, ap length e))
-three (s ∷ t ∷ []) a b c e = absurd (omega (arith, ap length e))
-three (s ∷ t ∷ u ∷ v ∷ rest) a b c e = absurd (omega (arith, ap length e))
-three (s ∷ t ∷ u ∷ []) a b c e =
-    let first : s.code ≡ a = cc e in
-    let second : t.code ≡ b = cc e in
-    let third : u.code ≡ c = cc e in (
-      s.body,
-      t.body,
-      u.body,
-      ap (λ k. segment k s.body ∷ t ∷ u ∷ []) first ∙ ap (λ k. segment a s.body ∷ segment k t.body ∷ u ∷ []) second
-          ∙ ap (λ k. segment a s.body ∷ segment b t.body ∷ segment k u.body ∷ []) third,
-    )
+no_end_fault : (bytes : List ℕ) (seen : Seen) (place : ℕ) → NoneLeft seen → end_fault bytes seen place ≡ None
+unfolding end_fault
+no_end_fault bytes seen place none = ap (λ s. end_fault bytes s place) none.all
 
--- what they spell
-record AreBodies (h : Header) (x y z : List ℕ) : Type 0 where
-  profile : ℕ
-  level : ℕ
-  raw_line : ℕ
-  picture : IsSegment pih_code (picture_fields h profile level raw_line) (segment pih_code x)
-  component : IsSegment cdt_code (component_fields h) (segment cdt_code y)
-  weight : IsSegment wgt_code (weight_fields h) (segment wgt_code z)
+ends : (bytes front tail : List ℕ) (place : ℕ) → bytes ≡ front ++ tail → length front ≡ place → FollowsHeader tail → is_end bytes place ≡ true
+ends bytes front tail place joined at (inl none) =
+    let size = ap length joined in
+    let empty = ap length none in
+    or_left (nat_le (length bytes) place) _ (le-leb (length bytes) place (omega (arith, size, empty, at, length-append front tail)))
+ends bytes front tail place joined at (inr begin) =
+    let after : drop place bytes ≡ 0xff ∷ 0x20 ∷ begin.0 = ap (drop place) joined ∙ drop_at front tail place at ∙ begin.1 in
+    let long = ap length after in
+    let code : half_word_at bytes place ≡ slh_code = ap (λ l. from_be_bytes w16 (take 2 l)) after in
+    or_right (nat_le (length bytes) place) _
+    (and_from (nat_le (place + 2) (length bytes)) (nat_eq (half_word_at bytes place) slh_code) (le-leb (place + 2) (length bytes) (omega (arith, long, length-drop place bytes))) (eq-eqb (half_word_at bytes place) slh_code code))
 
-bodies : (h : Header) (x y z : List ℕ) → AreSegmentsOf h (segments_of x y z) → AreBodies h x y z
-bodies h x y z said = go said.order
+-- A segment
+
+-- the code of one that may come
+pub record IsCode (code : ℕ) : Type 0 where
+  pub small : code < 2 ^ 16
+  pub other : nat_eq code slh_code ≡ false
+
+code_of : (code wanted : ℕ) → code ≡ wanted → wanted < 2 ^ 16 → nat_eq wanted slh_code ≡ false → IsCode code
+code_of code wanted same small other = record { small = omega (arith, same, small); other = ap (λ n. nat_eq n slh_code) same ∙ other }
+
+known_code : (s : Segment) (seen : Seen) (k : Kind) (size : ℕ) → IsOfKind s.code k → is_size seen k size ≡ true → IsCode s.code
+known_code s seen kind.Picture size told e = code_of s.code _ told (omega arith) refl
+known_code s seen kind.Components size told e = code_of s.code _ told (omega arith) refl
+known_code s seen kind.Weights size told e = code_of s.code _ told (omega arith) refl
+known_code s seen kind.SteppedOver size told e = elim (stepped_is s told) [
+  | inl p ↦ code_of s.code cap_code p (omega arith) refl
+  | inr (inl p) ↦ code_of s.code com_code p (omega arith) refl
+  | inr (inr p) ↦ code_of s.code crg_code p (omega arith) refl
+]
+known_code s seen kind.Unsupported size told e = absurd (false≢true e)
+known_code s seen kind.Unknown size told e = absurd (false≢true e)
+
+-- the body of a segment are bytes
+body_small : (bytes front tail : List ℕ) (s : Segment) (place : ℕ) → IsBytes bytes → bytes ≡ front ++ (segment_bytes s ++ tail) → length front ≡ place → IsBytes s.body
+body_small bytes front tail s place small joined at =
+    let here : drop place bytes ≡ segment_bytes s ++ tail = ap (drop place) joined ∙ drop_at front (segment_bytes s ++ tail) place at in
+    let after : drop (place + 4) bytes ≡ s.body ++ tail = sym (drop-drop 4 place bytes) ∙ ap (drop 4) here in
+    let long = ap length after in
+    let piece : take (length s.body) (drop (place + 4) bytes) ≡ s.body = ap (take (length s.body)) after ∙ take_at s.body tail (length s.body) refl in
+    subst IsBytes piece (piece_bytes (length s.body) (place + 4) bytes small (inside (length bytes) (place + 4) (length s.body) (length tail) (sym (length-drop (place + 4) bytes) ∙ long ∙ length-append s.body tail) room))
   where
-    listed : List Segment
-    listed = segment pih_code x ∷ segment cdt_code y ∷ segment wgt_code z ∷ []
+    whole : length bytes ≡ length front + (4 + (length s.body + length tail))
+    whole = let sum = length-append s.body tail in let all = length-append front (segment_bytes s ++ tail) in let size = ap length joined in omega (arith, size, all, sum)
 
-    mixed : (s : Segment) → s.code ≡ cdt_code → s ≡ segment wgt_code z → ⊥
-    mixed s code e = let c : s.code ≡ wgt_code = ap (λ (s : Segment). s.code) e in omega (arith, code, c)
+    room : place + 4 ≤ length bytes
+    room = omega (arith, whole, at)
 
-    go : (listed ≡ said.picture ∷ said.component ∷ said.weight ∷ []) ⊎ (listed ≡ said.picture ∷ said.weight ∷ said.component ∷ []) → AreBodies h x y z
-    go (inl e) =
-        let picture : said.picture ≡ segment pih_code x = cc (sym e) in
-        let component : said.component ≡ segment cdt_code y = cc (sym e) in
-        let weight : said.weight ≡ segment wgt_code z = cc (sym e) in
-        record {
-          profile = said.profile;
-          level = said.level;
-          raw_line = said.raw_line;
-          picture = subst (IsSegment pih_code (picture_fields h said.profile said.level said.raw_line)) picture said.picture_is;
-          component = subst (IsSegment cdt_code (component_fields h)) component said.component_is;
-          weight = subst (IsSegment wgt_code (weight_fields h)) weight said.weight_is;
-        }
-    go (inr e) = absurd (mixed said.component said.component_is.coded (cc (sym e)))
+    inside : (all place body tail : ℕ) → all - place ≡ body + tail → place ≤ all → place + body ≤ all
+    inside all place body tail e room = omega (arith, e, room)
 
--- The picture header
+-- at its place it is fine
+pub record IsHere (bytes : List ℕ) (place : ℕ) (seen : Seen) (s : Segment) (k : Kind) : Type 0 where
+  pub fine : IsFine bytes place seen
+  pub next : segment_end bytes place ≡ place + (4 + length s.body)
+  pub after : with_segment seen (segment_kind bytes place) (segment_body bytes place) (place + 4) ≡ with_segment seen k s.body (place + 4)
+  pub more : is_end bytes place ≡ false
 
--- its fields have the values that the header says
-values_seen : (h : Header) (profile level raw_line : ℕ) (x : List ℕ) → IsBytes x → length x ≡ 24
-    → IsSegment pih_code (picture_fields h profile level raw_line) (segment pih_code x)
-    → map (λ (f : ℕ × ℕ). f.1) (picture_fields h profile level raw_line) ≡ map (λ (f : ℕ × ℕ). f.1) (picture_read x)
-values_seen h profile level raw_line x small size is =
-    (fields_agree (picture_fields h profile level raw_line) (picture_read x) [] [] refl is.room (picture_room x small size) (ap (λ l. l ++ []) (sym is.spelled ∙ picture_bits x small size))).0
-
--- and so the number of bands
-bands_seen : (h : Header) (profile level raw_line : ℕ) (x : List ℕ) → IsBytes x → length x ≡ 24
-    → IsSegment pih_code (picture_fields h profile level raw_line) (segment pih_code x) → 2 * h.nly + h.nlx + 1 ≡ bands_of_fields (picture_fields_of x)
-bands_seen h profile level raw_line x small size is =
-    let same = values_seen h profile level raw_line x small size is in
-    let nlx : h.nlx ≡ field 4 4 (byte_at x 22) = ap (λ l. get_or l 16 0) same in
-    let nly : h.nly ≡ field 4 0 (byte_at x 22) = ap (λ l. get_or l 17 0) same in
-    ap (λ n. 2 * n + h.nlx + 1) nly ∙ ap (λ n. 2 * field 4 0 (byte_at x 22) + n + 1) nlx
-
-picture_taken : (h : Header) (profile level raw_line : ℕ) (x : List ℕ) → IsBytes x → length x ≡ 24 → IsAccepted h → HasBuiltValues h
-    → IsSegment pih_code (picture_fields h profile level raw_line) (segment pih_code x) → Taken (picture_fields_of x)
-picture_taken h profile level raw_line x small size accepted values is = record {
-  wf = subst (λ n. (least_width ≤ n) × (n ≤ most_width)) width g.shape.width;
-  hf = subst (λ n. (least_height ≤ n) × (n ≤ most_height)) height g.shape.height;
-  area = subst (λ n. n ≤ most_area) (ap (λ n. n * h.shape.height) width ∙ ap (λ n. half_word_at x 8 * n) height) g.shape.area;
-  cw = sym (at 5);
-  hsl = subst (λ n. 1 ≤ n) hsl g.hsl;
-  nc = sym components ∙ ap components_of values.format;
-  ng = sym (at 8);
-  ss = sym (at 9);
-  bw = subst IsPrecision bw accepted.bits.0;
-  fq = sym fq ∙ accepted.bits.1 ∙ ap fq_of bw;
-  br = sym (at 12);
-  fslc = sym (at 13);
-  ppoc = sym (at 14);
-  cpih = sym colour ∙ ap bit_of values.colour;
-  nlx = subst (λ n. (1 ≤ n) × (n ≤ most_across)) nlx g.nlx;
-  nly = subst (λ n. n ≤ min most_down (field 4 4 (byte_at x 22))) nly (subst (λ n. h.nly ≤ min most_down n) nlx g.nly);
-  slices =
-      subst (λ n. n ≤ most_slices) (
-      slices_same h.shape.height h.nly h.hsl g.hsl ∙ ap (λ n. slice_count_of n h.nly (max 1 h.hsl)) height
-      ∙ ap (λ n. slice_count_of (half_word_at x 10) n (max 1 h.hsl)) nly ∙ ap (λ n. slice_count_of (half_word_at x 10) (field 4 0 (byte_at x 22)) (max 1 n)) hsl)
-      g.slices;
-  qpih = sym quant ∙ ap quant_code values.quant;
-  fs = sym signs ∙ ap bit_of values.signs;
-  rm = sym runs ∙ values.runs;
-}
-  where
-    g : IsGeometry h
-    g = accepted.geometry
-
-    same : map (λ (f : ℕ × ℕ). f.1) (picture_fields h profile level raw_line) ≡ map (λ (f : ℕ × ℕ). f.1) (picture_read x)
-    same = values_seen h profile level raw_line x small size is
-
-    at : (i : ℕ) → get_or (map (λ (f : ℕ × ℕ). f.1) (picture_fields h profile level raw_line)) i 0 ≡ get_or (map (λ (f : ℕ × ℕ). f.1) (picture_read x)) i 0
-    at i = ap (λ l. get_or l i 0) same
-
-    width : h.shape.width ≡ half_word_at x 8
-    width = at 3
-
-    height : h.shape.height ≡ half_word_at x 10
-    height = at 4
-
-    hsl : h.hsl ≡ half_word_at x 14
-    hsl = at 6
-
-    components : components_of h.shape.format ≡ byte_at x 16
-    components = at 7
-
-    bw : h.bw ≡ byte_at x 19
-    bw = at 10
-
-    fq : h.fq ≡ field 4 4 (byte_at x 20)
-    fq = at 11
-
-    colour : bit_of h.colour ≡ field 4 0 (byte_at x 21)
-    colour = at 15
-
-    nlx : h.nlx ≡ field 4 4 (byte_at x 22)
-    nlx = at 16
-
-    nly : h.nly ≡ field 4 0 (byte_at x 22)
-    nly = at 17
-
-    quant : quant_code h.quant ≡ field 2 4 (byte_at x 23)
-    quant = at 20
-
-    signs : bit_of h.signs_apart ≡ field 2 2 (byte_at x 23)
-    signs = at 21
-
-    runs : h.run_mode ≡ field 2 0 (byte_at x 23)
-    runs = at 22
-
--- The component
-
-component_is : (h : Header) → HasBuiltValues h → component_fields h ≡ (8, h.shape.depth) ∷ (4, 1) ∷ (4, 1) ∷ []
-component_is h values = ap (λ f. fields_of f h.shape.depth) values.format
-
-component_seen : (h : Header) (y : List ℕ) → IsBytes y → length y ≡ 2 → HasBuiltValues h → IsSegment cdt_code (component_fields h) (segment cdt_code y) → TakenComponent y
-component_seen h y small size values is =
-    let fields = (8, h.shape.depth) ∷ (4, 1) ∷ (4, 1) ∷ [] in
-    let room : FieldsFit fields = subst FieldsFit (component_is h values) is.room in
-    let same : map (λ (f : ℕ × ℕ). f.1) fields ≡ map (λ (f : ℕ × ℕ). f.1) (component_read y) =
-    (fields_agree fields (component_read y) [] [] refl room (component_room y small) (ap (λ l. l ++ []) (ap bits_of_fields (sym (component_is h values)) ∙ sym is.spelled ∙ component_bits y size))).0 in
-    let depth : h.shape.depth ≡ byte_at y 0 = cc same in
-    record { bc = sym depth ∙ values.depth; sx = sym (cc same); sy = sym (cc same) }
-
--- Sizes of the bodies
-
-picture_size : (h : Header) (profile level raw_line : ℕ) (x : List ℕ) → IsSegment pih_code (picture_fields h profile level raw_line) (segment pih_code x) → length x ≡ 24
-picture_size h profile level raw_line x is =
-    let bits : 8 * length x ≡ 192 = sym (length-bits_of_bytes x) ∙ ap length is.spelled ∙ length-widths (picture_fields h profile level raw_line) in
-    omega (arith, bits)
-
-component_size : (h : Header) (y : List ℕ) → HasBuiltValues h → IsSegment cdt_code (component_fields h) (segment cdt_code y) → length y ≡ 2
-component_size h y values is =
-    let bits : 8 * length y ≡ 16 =
-    sym (length-bits_of_bytes y) ∙ ap length (is.spelled ∙ ap bits_of_fields (component_is h values)) ∙ length-widths ((8, h.shape.depth) ∷ (4, 1) ∷ (4, 1) ∷ []) in
-    omega (arith, bits)
-
-weights_size : (h : Header) (z : List ℕ) → IsAccepted h → HasBuiltValues h → IsSegment wgt_code (weight_fields h) (segment wgt_code z) → length z ≡ 2 * (2 * h.nly + h.nlx + 1)
-weights_size h z accepted values is =
-    let count : length h.weights ≡ (2 * h.nly + h.nlx + 1) * 1 = accepted.weights ∙ ap (λ f. (2 * h.nly + h.nlx + 1) * components_of f) values.format in
-    let bits : 8 * length z ≡ 16 * length h.weights = sym (length-bits_of_bytes z) ∙ ap length is.spelled ∙ length-widths (weight_fields h) ∙ weights_widths h.weights in
-    omega (arith, bits, count)
-
--- All of them
-
-opened : (a b c d e rest : List ℕ) → (a ++ (b ++ (c ++ (d ++ (e ++ []))))) ++ rest ≡ a ++ (b ++ (c ++ (d ++ (e ++ rest))))
-opened a b c d e rest = simp append_assoc
-
--- a header that is read is at the front of the bytes
-pub record IsSeen (bytes : List ℕ) (n : ℕ) : Type 0 where
-  pub unrefused : IsUnrefused bytes
-  pub ended : n ≡ end_of (picture_at bytes)
-
-ends : (bytes : List ℕ) (n end : ℕ) → n ≡ end → (n ≡ length bytes) ⊎ BeginsWith (drop n bytes) slh → (length bytes ≤ end) ⊎ IsCodeAt bytes end slh_code
-ends bytes n end here (inl whole) = inl (omega (arith, here, whole))
-ends bytes n end here (inr begin) =
-    let there : drop end bytes ≡ 0xff ∷ 0x20 ∷ begin.0 = ap (λ k. drop k bytes) (sym here) ∙ begin.1 in
-    let size = ap length there in
-    inr (record { there = omega (arith, size, length-drop end bytes); coded = ap (λ l. from_be_bytes w16 (take 2 l)) there })
-
-pub header_seen : (h : Header) (bytes : List ℕ) (n : ℕ) → IsBytes bytes → IsHeaderFront h bytes n → IsBuiltHeader h (take n bytes) → IsSeen bytes n
-header_seen h bytes n small front built = record {
-  unrefused = record {
-    start = record { there = omega (arith, total); coded = ap (λ l. from_be_bytes w16 (take 2 l)) whole };
-    cap = (segment_seen bytes soc (S6 ++ (S34 ++ (S40 ++ rest))) 2 cap_code 2 [] whole refl (omega arith) refl (omega arith)).0;
-    pih = pih.0;
-    picture = fields_taken (picture_at bytes) (subst (λ b. Taken (picture_fields_of b)) (sym pih.1) (picture_taken h said.profile said.level said.raw_line x x_small x_size accepted values said.picture));
-    cdt = cdt.0;
-    component = component_taken (segment_body_at bytes 34 4) (subst TakenComponent (sym cdt.1) (component_seen h y (subst IsBytes cdt.1 (piece_bytes 2 38 bytes small (omega (arith, total)))) y_size values said.component));
-    wgt =
-        subst (λ b. IsSegmentAt bytes 40 wgt_code (2 + 2 * b)) bands_are
-        (segment_seen bytes (soc ++ (S2 ++ (S6 ++ S34))) rest 40 wgt_code (2 + 2 * bands) z at_wgt (omega (arith, length-append x S34, x_size, y_size)) (omega arith) (omega (arith, z_size)) (omega (arith, few))).0;
-    ended = ends bytes n (end_of (picture_at bytes)) here front.1;
+here : (h : Header) (x y z : Segment) (bytes front tail : List ℕ) (place : ℕ) (seen : Seen) (s : Segment) (tables : List Segment) → bytes ≡ front ++ (segment_bytes s ++ tail) → length front ≡ place
+    → length s.body + 2 < 2 ^ 16 → (m : MayCome h x y z seen s place tables) → IsHere bytes place seen s m.kind
+here h x y z bytes front tail place seen s tables joined at short m = record {
+  fine = record {
+    least = subst (λ n. 2 ≤ n) (sym size) (omega arith);
+    whole = subst (λ n. place + 2 + n ≤ length bytes) (sym size) at_place.0.whole;
+    kind = ap (λ k. kind_fault seen k (segment_code bytes place) place) kind_is ∙ ap (λ c. kind_fault seen m.kind c place) code ∙ m.fault;
+    size = ap (λ k. is_size seen k (segment_size bytes place)) kind_is ∙ ap (is_size seen m.kind) size ∙ m.size;
+    fields = ap (λ k. fields_fault (rules_of seen k (segment_body bytes place))) kind_is ∙ ap (λ b. fields_fault (rules_of seen m.kind b)) body ∙ m.fields;
   };
-  ended = here;
+  next = ap (λ n. place + 2 + n) size ∙ sum place (length s.body);
+  after = ap (λ k. with_segment seen k (segment_body bytes place) (place + 4)) kind_is ∙ ap (λ b. with_segment seen m.kind b (place + 4)) body;
+  more =
+      or_from (nat_le (length bytes) place) (nat_le (place + 2) (length bytes) && nat_eq (half_word_at bytes place) slh_code) (lt-leb (length bytes) place (room place (length s.body) (length bytes) at_place.0.whole))
+      (ap (λ c. nat_le (place + 2) (length bytes) && nat_eq c slh_code) code ∙ ap (λ t. nat_le (place + 2) (length bytes) && t) coded.other ∙ never (nat_le (place + 2) (length bytes)));
 }
   where
-    accepted : IsAccepted h
-    accepted = built.spelled.accepted
+    coded : IsCode s.code
+    coded = known_code s seen m.kind (length s.body + 2) (subst (IsOfKind s.code) m.told (kind_told s.code)) m.size
 
-    values : HasBuiltValues h
-    values = built.values
+    at_place : IsSegmentAt bytes place s.code (length s.body + 2) × (segment_body_at bytes place (length s.body + 2) ≡ s.body)
+    at_place = segment_seen bytes front tail place s.code (length s.body + 2) s.body joined at coded.small refl short
 
-    parts : (x : List ℕ) × (y : List ℕ) × (z : List ℕ) × (built.rest ≡ segment pih_code x ∷ segment cdt_code y ∷ segment wgt_code z ∷ [])
-    parts = three built.rest pih_code cdt_code wgt_code built.order
+    code : segment_code bytes place ≡ s.code
+    code = at_place.0.coded
 
-    x : List ℕ
-    x = parts.0
+    kind_is : segment_kind bytes place ≡ m.kind
+    kind_is = ap kind_of code ∙ m.told
 
-    y : List ℕ
-    y = parts.1
+    size : segment_size bytes place ≡ length s.body + 2
+    size = at_place.0.sized
 
-    z : List ℕ
-    z = parts.2
+    body : segment_body bytes place ≡ s.body
+    body = ap (segment_body_at bytes place) size ∙ at_place.1
 
-    segments_are : built.spelled.segments ≡ segments_of x y z
-    segments_are = built.capabilities ∙ ap (λ l. segment cap_code [] ∷ l) parts.3
+    sum : (from long : ℕ) → from + 2 + (long + 2) ≡ from + (4 + long)
+    sum from long = omega arith
 
-    said : AreBodies h x y z
-    said = bodies h x y z (subst (AreSegmentsOf h) segments_are built.spelled.said)
+    room : (from long all : ℕ) → from + 2 + (long + 2) ≤ all → from < all
+    room from long all whole = omega (arith, whole)
 
-    x_size : length x ≡ 24
-    x_size = picture_size h said.profile said.level said.raw_line x said.picture
+    never : (t : Bool) → (t && false) ≡ false
+    never true = refl
+    never false = refl
 
-    y_size : length y ≡ 2
-    y_size = component_size h y values said.component
+-- it comes next
+next_comes : (h : Header) (x y z : Segment) (bytes front tail : List ℕ) (place : ℕ) (seen : Seen) (s : Segment) (rest : List Segment) → AreGiven h x y z → IsBytes bytes → bytes ≡ front ++ (segment_bytes s ++ tail)
+    → length front ≡ place → AreLeftOf h x y z seen (kept (s ∷ rest)) → MayCome h x y z seen s place (kept rest)
+next_comes h x y z bytes front tail place seen s rest g small joined at left = go (is_stepped_over s) refl left
+  where
+    go : (t : Bool) → is_stepped_over s ≡ t → AreLeftOf h x y z seen (if not t then s ∷ kept rest else kept rest) → MayCome h x y z seen s place (kept rest)
+    go true e left = stepped_comes h x y z seen s place (kept rest) e left
+    go false e left = table_comes_of h x y z seen s place (kept rest) g (body_small bytes front tail s place small joined at) left
 
-    bands : ℕ
-    bands = 2 * h.nly + h.nlx + 1
+-- One segment after the other
 
-    few : bands ≤ 10
-    few = omega (arith, accepted.geometry.nlx, accepted.geometry.nly)
+at_next : (grown front piece place body next : ℕ) → grown ≡ front + piece → front ≡ place → piece ≡ 4 + body → next ≡ place + (4 + body) → grown ≡ next
+at_next grown front piece place body next a b c d = omega (arith, a, b, c, d)
 
-    z_size : length z ≡ 2 * bands
-    z_size = weights_size h z accepted values said.weight
+-- from the next place on, and so from this one
+on_from : (steps fewer : ℕ) (bytes : List ℕ) (place next : ℕ) (seen after : Seen) → segments_from steps bytes place seen ≡ segments_from fewer bytes next after → IsReadFrom fewer bytes next after → IsReadFrom steps bytes place seen
+on_from steps fewer bytes place next seen after same more = record { found = more.found; same = same ∙ more.same; no_fault = more.no_fault }
 
-    S2 : List ℕ
-    S2 = segment_bytes (segment cap_code [])
+read_on : (h : Header) (x y z : Segment) (segments : List Segment) (steps place : ℕ) (bytes front tail : List ℕ) (seen : Seen) → AreGiven h x y z → IsBytes bytes → bytes ≡ front ++ (flat_map segment_bytes segments ++ tail)
+    → length front ≡ place → FollowsHeader tail → AllByRecursion (λ (s : Segment). length s.body + 2 < 2 ^ 16) segments → AreLeftOf h x y z seen (kept segments) → length bytes < steps + place
+    → IsReadFrom steps bytes place seen
+read_on h x y z [] steps place bytes front tail seen g small joined at follows short left enough =
+    let within : place ≤ length bytes = let size = ap length joined in omega (arith, size, at, length-append front tail) in
+    record {
+      found = (seen, place);
+      same = step_end steps bytes place seen enough within (ends bytes front tail place joined at follows);
+      no_fault = no_end_fault bytes seen place (none_left h x y z seen left);
+    }
+read_on h x y z (s ∷ rest) steps place bytes front tail seen g small joined at follows short left enough =
+    let cut : bytes ≡ front ++ (segment_bytes s ++ (flat_map segment_bytes rest ++ tail)) = joined ∙ ap (λ l. front ++ l) (append_assoc (segment_bytes s) (flat_map segment_bytes rest) tail) in
+    let m = next_comes h x y z bytes front (flat_map segment_bytes rest ++ tail) place seen s rest g small cut at left in
+    let is = here h x y z bytes front (flat_map segment_bytes rest ++ tail) place seen s (kept rest) cut at short.0 m in
+    let within : place ≤ length bytes = let size = ap length cut in omega (arith, size, at, length-append front (segment_bytes s ++ (flat_map segment_bytes rest ++ tail))) in
+    let on = step_on steps bytes place seen enough within is.more (fine_segment bytes place seen is.fine) in
+    let joined_on : bytes ≡ (front ++ segment_bytes s) ++ (flat_map segment_bytes rest ++ tail) = cut ∙ sym (append_assoc front (segment_bytes s) (flat_map segment_bytes rest ++ tail)) in
+    let long : length (segment_bytes s) ≡ 4 + length s.body = omega arith in
+    let at_on : length (front ++ segment_bytes s) ≡ segment_end bytes place = at_next _ _ _ _ _ _ (length-append front (segment_bytes s)) at long is.next in
+    let left_on = subst (λ seen. AreLeftOf h x y z seen (kept rest)) (sym is.after) m.left in
+    let more = read_on h x y z rest on.fewer (segment_end bytes place) bytes (front ++ segment_bytes s) tail (with_segment seen (segment_kind bytes place) (segment_body bytes place) (place + 4)) g small joined_on at_on follows short.1 left_on on.enough in
+    on_from steps on.fewer bytes place (segment_end bytes place) seen (with_segment seen (segment_kind bytes place) (segment_body bytes place) (place + 4)) on.same more
 
-    S6 : List ℕ
-    S6 = segment_bytes (segment pih_code x)
+-- Headers
 
-    S34 : List ℕ
-    S34 = segment_bytes (segment cdt_code y)
+pub given : (h : Header) (segments : List Segment) → IsAccepted h → (said : AreSegmentsOf h segments) → AreGiven h said.picture said.component said.weight
+given h segments accepted said = record {
+  accepted = accepted;
+  profile = said.profile;
+  level = said.level;
+  raw_line = said.raw_line;
+  picture = said.picture_is;
+  component = said.component_is;
+  weight = said.weight_is;
+}
 
-    S40 : List ℕ
-    S40 = segment_bytes (segment wgt_code z)
+-- a header and what follows it are not refused
+pub header_unrefused : (h : Header) (bytes front tail : List ℕ) → IsBytes bytes → IsHeader h front → bytes ≡ front ++ tail → FollowsHeader tail → head_fault bytes ≡ None
+header_unrefused h bytes front tail small is joined follows =
+    ap (fault_from bytes) (started bytes (sym (there_start bytes there.0 there.1)) ∙ read.same) ∙ read.no_fault
+  where
+    whole : bytes ≡ soc ++ (flat_map segment_bytes is.segments ++ tail)
+    whole = joined ∙ ap (λ l. l ++ tail) is.joined ∙ append_assoc soc (flat_map segment_bytes is.segments) tail
 
-    rest : List ℕ
-    rest = drop n bytes
+    there : (2 ≤ length bytes) × (half_word_at bytes 0 ≡ soc_code)
+    there = (let size = ap length whole in omega (arith, size), ap (λ l. from_be_bytes w16 (take 2 l)) whole)
 
-    joined : take n bytes ≡ soc ++ (S2 ++ (S6 ++ (S34 ++ (S40 ++ []))))
-    joined = built.spelled.joined ∙ ap (λ l. soc ++ flat_map segment_bytes l) segments_are
+    read : IsReadFrom (length bytes) bytes 2 nothing_seen
+    read = read_on h is.said.picture is.said.component is.said.weight is.segments (length bytes) 2 bytes soc tail nothing_seen (given h is.segments is.accepted is.said) small whole refl follows is.short is.said.order (omega (arith, there))
 
-    whole : bytes ≡ soc ++ (S2 ++ (S6 ++ (S34 ++ (S40 ++ rest))))
-    whole = sym (take-append-drop n bytes) ∙ ap (λ l. l ++ rest) joined ∙ opened soc S2 S6 S34 S40 rest
+follows_of : (bytes : List ℕ) (n : ℕ) → (n ≡ length bytes) ⊎ BeginsWith (drop n bytes) slh → FollowsHeader (drop n bytes)
+follows_of bytes n (inl whole) = inl (drop_all n bytes (omega (arith, whole)))
+follows_of bytes n (inr begin) = inr begin
 
-    inside : n ≤ length bytes
-    inside = front.0.0
-
-    ended : n ≡ 44 + 2 * bands
-    ended =
-        let size : n ≡ length (soc ++ (S2 ++ (S6 ++ (S34 ++ (S40 ++ []))))) = sym (length-take-le n bytes inside) ∙ ap length joined in
-        omega (arith, size, length-append x (S34 ++ (S40 ++ [])), length-append y (S40 ++ []), length-append z [], x_size, y_size, z_size)
-
-    total : 46 ≤ length bytes
-    total = omega (arith, inside, ended)
-
-    pih : IsSegmentAt bytes 6 pih_code 26 × (segment_body_at bytes 6 26 ≡ x)
-    pih = segment_seen bytes (soc ++ S2) (S34 ++ (S40 ++ rest)) 6 pih_code 26 x whole refl (omega arith) (omega (arith, x_size)) (omega arith)
-
-    x_small : IsBytes x
-    x_small = subst IsBytes pih.1 (piece_bytes 24 10 bytes small (omega (arith, total)))
-
-    bands_are : bands ≡ bands_of_fields (picture_at bytes)
-    bands_are = bands_seen h said.profile said.level said.raw_line x x_small x_size said.picture ∙ ap (λ b. bands_of_fields (picture_fields_of b)) (sym pih.1)
-
-    here : n ≡ end_of (picture_at bytes)
-    here = ended ∙ ap (λ b. 44 + 2 * b) bands_are
-
-    at_cdt : bytes ≡ (soc ++ (S2 ++ S6)) ++ (S34 ++ (S40 ++ rest))
-    at_cdt = whole ∙ sym (append_assoc (soc ++ S2) S6 (S34 ++ (S40 ++ rest)))
-
-    cdt : IsSegmentAt bytes 34 cdt_code 4 × (segment_body_at bytes 34 4 ≡ y)
-    cdt = segment_seen bytes (soc ++ (S2 ++ S6)) (S40 ++ rest) 34 cdt_code 4 y at_cdt (omega (arith, x_size)) (omega arith) (omega (arith, y_size)) (omega arith)
-
-    at_wgt : bytes ≡ (soc ++ (S2 ++ (S6 ++ S34))) ++ (S40 ++ rest)
-    at_wgt = at_cdt ∙ sym (append_assoc (soc ++ (S2 ++ S6)) S34 (S40 ++ rest)) ∙ ap (λ l. l ++ (S40 ++ rest)) (append_assoc (soc ++ S2) S6 S34)
+-- and are read as that header alone
+pub header_known : (h : Header) (bytes : List ℕ) (n : ℕ) → IsBytes bytes → IsHeaderFront h bytes n → (head_fault bytes ≡ None) × (header_at bytes ≡ h) × (header_end bytes ≡ n)
+header_known h bytes n small front =
+    let none = header_unrefused h bytes (take n bytes) (drop n bytes) small front.0.1 (sym (take-append-drop n bytes)) (follows_of bytes n front.1) in
+    let read = header_spelled bytes small none in
+    let end = header_end bytes in
+    let same : (drop end bytes ≡ drop n bytes) × (header_at bytes ≡ h) =
+    one_header (header_at bytes) h (take end bytes) (take n bytes) (drop end bytes) (drop n bytes) read.0.1 front.0.1 (follows_of bytes end read.1) (follows_of bytes n front.1)
+    (take-append-drop end bytes ∙ sym (take-append-drop n bytes)) in
+    (none, same.1, same_end (length bytes) end n read.0.0 front.0.0 (sym (length-drop end bytes) ∙ ap length same.0 ∙ length-drop n bytes))
+  where
+    same_end : (all end n : ℕ) → end ≤ all → n ≤ all → all - end ≡ all - n → end ≡ n
+    same_end all end n a b e = omega (arith, a, b, e)

@@ -2,14 +2,21 @@ mod Bodies
 mod Joined
 mod Packed
 mod Cut
+mod Pieces
 mod FieldsRead
-mod Weights
 mod Refusals
-mod Segments
+mod Weights
 mod Accepted
-mod Unrefused
+mod TakenTable
+mod KindsTold
+mod OneStep
+mod Fine
+mod Tables
+mod Found
 mod HeaderRead
+mod SaidOf
+mod Left
 mod HeaderSeen
-pub mod ReadAgain
-mod Refused
+mod BoxesFound
+pub mod UnitsKnown
 pub mod Steps

@@ -1,69 +1,70 @@
--- What is read of a header, and why bytes are refused: docs/FORMAT.md, 'Codestream layout' and 'Picture header'. The segments stand in the writer's
--- order, with empty capabilities, and so at fixed places.
-use Rattle.std.specs.Prelude.{ℕ, ◌+◌, ◌-◌, ◌*◌, false, not, nat_eq, nat_lt, nat_le, if◌then◌else◌, Option, None, List, [], ◌∷◌, length, take, drop}
-use Rattle.xs_lists.specs.Fields.{field, has_bit, half_word_at, word_at}
-use Rattle.xs_lists.specs.First.{first_of, first_some}
+-- What is read of a header, and the first fault of bytes that are none: 'Codestream layout' and 'Picture header'.
+use Rattle.std.specs.Prelude.{ℕ, suc, zero, ◌+◌, ◌*◌, Bool, not, ◌&&◌, ◌||◌, nat_eq, nat_lt, nat_le, if◌then◌else◌, is_none, Option, Some, None, Result, Ok, Err, List, [], ◌∷◌, length, take, drop}
+use Rattle.std.specs.Option.{unwrap_or}
+use Rattle.std.specs.Result.{result_unwrap_or}
+use Rattle.xs_lists.specs.Fields.{half_word_at}
+use Rattle.xs_lists.specs.First.{first_of}
 use Rattle.xs_layout.specs.declared.Format.TheVariants.{Mono}
-use Rattle.xs_layout.specs.declared.Quant.TheVariants.{DeadZone}
+use Rattle.xs_layout.specs.declared.Quant.TheVariants.{DeadZone, Uniform}
+use Rattle.xs_layout.specs.declared.Shape.{Shape}
 use Rattle.xs_layout.specs.declared.Weight.{Weight}
 use Rattle.xs_params.specs.declared.header.Header.{Header}
+use Rattle.xs_params.specs.Geometry.{blank_header}
 use Rattle.xs_faults.specs.declared.HeadFault.{HeadFault}
-use Rattle.xs_faults.specs.declared.HeadFault.TheVariants.{Truncated, Marker, Length}
-use Rattle.xs_grammar.specs.Header.{cap_code, pih_code, cdt_code, wgt_code}
+use Rattle.xs_faults.specs.declared.HeadFault.TheVariants.{Truncated, Marker, Absent}
+use Rattle.xs_grammar.specs.Header.{pih_code, cdt_code, wgt_code}
 use Rattle.xs_markers.specs.declared.picture.PictureFields.{PictureFields}
-use Rattle.xs_markers.specs.Values.{byte_at, fields_fault, picture_rules, component_rules}
+use Rattle.xs_markers.specs.declared.seen.Seen.{Seen}
+use Rattle.xs_markers.specs.Segments.{soc_code, slh_code, segment_kind, segment_body, segment_end, bands_of_fields, nothing_seen, with_segment, segment_fault}
 
--- What the bytes say
+-- One segment after the other
 
--- the markers that begin a codestream and a slice
-abbrev pub soc_code : ℕ
-soc_code = 0xff10
+-- an answer, if there is no fault before it
+abbrev pub unless : {A : Type 0} → Option HeadFault → Result A HeadFault → Result A HeadFault
+unless None answer = answer
+unless (Some fault) answer = Err fault
 
-abbrev pub slh_code : ℕ
-slh_code = 0xff20
+-- the bytes end, or a slice begins
+abbrev pub is_end : List ℕ → ℕ → Bool
+is_end bytes place = nat_le (length bytes) place || (nat_le (place + 2) (length bytes) && nat_eq (half_word_at bytes place) slh_code)
 
--- the body of a segment at a place, whose length field has this value
-abbrev pub segment_body_at : List ℕ → ℕ → ℕ → List ℕ
-segment_body_at bytes place size = take (size - 2) (drop (place + 4) bytes)
+-- what is seen from a place on, after what was seen before it, and where the header ends; a segment has four bytes or more, so that as many steps as
+-- there are bytes are enough
+unfoldable pub segments_from : ℕ → List ℕ → ℕ → Seen → Result (Seen × ℕ) HeadFault
+segments_from zero bytes place seen = Err (Truncated (length bytes))
+segments_from (suc steps) bytes place seen =
+    if is_end bytes place then Ok (seen, place)
+    else unless (segment_fault bytes place seen)
+    (segments_from steps bytes (segment_end bytes place) (with_segment seen (segment_kind bytes place) (segment_body bytes place) (place + 4)))
 
--- the fields of the body of a picture header; profile, level and the field Rl are left out
-abbrev pub picture_fields_of : List ℕ → PictureFields
-picture_fields_of body = record {
-  lcod = word_at body 0;
-  wf = half_word_at body 8;
-  hf = half_word_at body 10;
-  cw = half_word_at body 12;
-  hsl = half_word_at body 14;
-  nc = byte_at body 16;
-  ng = byte_at body 17;
-  ss = byte_at body 18;
-  bw = byte_at body 19;
-  fq = field 4 4 (byte_at body 20);
-  br = field 4 0 (byte_at body 20);
-  fslc = field 1 7 (byte_at body 21);
-  ppoc = field 3 4 (byte_at body 21);
-  cpih = field 4 0 (byte_at body 21);
-  nlx = field 4 4 (byte_at body 22);
-  nly = field 4 0 (byte_at body 22);
-  lh = has_bit 7 (byte_at body 23);
-  qpih = field 2 4 (byte_at body 23);
-  fs = field 2 2 (byte_at body 23);
-  rm = field 2 0 (byte_at body 23);
-}
+-- the bytes end before the start marker, or another one stands in its place
+unfoldable pub start_fault : List ℕ → Option HeadFault
+start_fault bytes =
+    first_of (
+    (nat_lt (length bytes) 2, Truncated (length bytes))
+    ∷ (not (nat_eq (half_word_at bytes 0) soc_code), Marker (half_word_at bytes 0) 0)
+    ∷ []
+    )
 
--- the picture header, which stands at one place
-abbrev pub picture_at : List ℕ → PictureFields
-picture_at bytes = picture_fields_of (segment_body_at bytes 6 26)
+-- what is seen of a header, and where it ends
+unfoldable pub segments_of : List ℕ → Result (Seen × ℕ) HeadFault
+segments_of bytes = unless (start_fault bytes) (segments_from (length bytes) bytes 2 nothing_seen)
 
--- the bands of a grey picture, the length of the table of their weights, and where the header ends
-abbrev pub bands_of_fields : PictureFields → ℕ
-bands_of_fields p = 2 * p.nly + p.nlx + 1
+-- what is wrong where it ends without a segment: the bytes are cut, if it is they that end; else the segment is not there
+abbrev pub missing : List ℕ → ℕ → ℕ → HeadFault
+missing bytes place code = if nat_le (length bytes) place then Truncated (length bytes) else Absent code
 
-abbrev pub table_size : PictureFields → ℕ
-table_size p = 2 + 2 * bands_of_fields p
+-- the first of the three segments that was not seen
+unfoldable pub end_fault : List ℕ → Seen → ℕ → Option HeadFault
+end_fault bytes seen place =
+    first_of (
+    (is_none seen.picture, missing bytes place pih_code)
+    ∷ (is_none seen.shape, missing bytes place cdt_code)
+    ∷ (is_none seen.weights, missing bytes place wgt_code)
+    ∷ []
+    )
 
-abbrev pub end_of : PictureFields → ℕ
-end_of p = 44 + 2 * bands_of_fields p
+-- What it says
 
 -- the weights of bands, a gain and a priority each
 abbrev pub weights_of : List ℕ → List Weight
@@ -71,64 +72,51 @@ weights_of [] = []
 weights_of (gain ∷ []) = []
 weights_of (gain ∷ priority ∷ body) = record { gain = gain; priority = priority } ∷ weights_of body
 
--- the header of fields whose values are accepted
-abbrev pub header_of_fields : PictureFields → List Weight → Header
-header_of_fields p weights = record {
+-- those of a picture, which stand at a place
+abbrev pub weights_at : List ℕ → PictureFields → ℕ → List Weight
+weights_at bytes p at = weights_of (take (2 * bands_of_fields p) (drop at bytes))
+
+-- the header of fields, a shape and weights
+abbrev pub header_of_fields : PictureFields → Shape → List Weight → Header
+header_of_fields p shape weights = record {
   lcod = p.lcod;
-  shape = record { width = p.wf; height = p.hf; format = Mono; depth = 8 };
+  shape = shape;
   hsl = p.hsl;
   bw = p.bw;
   fq = p.fq;
-  colour = false;
+  colour = nat_eq p.cpih 1;
   nlx = p.nlx;
   nly = p.nly;
   long_heads = p.lh;
-  quant = DeadZone;
-  signs_apart = false;
+  quant = if nat_eq p.qpih 1 then Uniform else DeadZone;
+  signs_apart = nat_eq p.fs 1;
   run_mode = p.rm;
   weights = weights;
 }
 
--- Why they are refused
+-- of bytes that are none
+abbrev pub no_shape : Shape
+no_shape = record { width = 0; height = 0; format = Mono; depth = 0 }
 
--- the bytes end before a marker, or another one stands in its place
-unfoldable pub code_fault : List ℕ → ℕ → ℕ → Option HeadFault
-code_fault bytes place code =
-    first_of (
-    (nat_lt (length bytes) (place + 2), Truncated (length bytes))
-    ∷ (not (nat_eq (half_word_at bytes place) code), Marker (half_word_at bytes place) place)
-    ∷ []
-    )
+abbrev pub no_header : Header
+no_header = blank_header no_shape 0 0 0
 
--- what is wrong with a segment, apart from its body
-unfoldable pub segment_fault : List ℕ → ℕ → ℕ → ℕ → Option HeadFault
-segment_fault bytes place code size =
-    first_some (
-    code_fault bytes place code
-    ∷ first_of (
-    (nat_lt (length bytes) (place + 4), Truncated (length bytes))
-    ∷ (not (nat_eq (half_word_at bytes (place + 2)) size), Length code (half_word_at bytes (place + 2)))
-    ∷ (nat_lt (length bytes) (place + 2 + size), Truncated (length bytes))
-    ∷ []
-    )
-    ∷ []
-    )
+-- the header of what was seen
+abbrev pub header_of_seen : List ℕ → Seen → Header
+header_of_seen bytes seen = elim seen.picture [
+  | None ↦ no_header
+  | Some p ↦ header_of_fields p (unwrap_or seen.shape no_shape) (weights_at bytes p (unwrap_or seen.weights 0))
+]
 
--- after the header the bytes end, or a slice begins
-unfoldable pub end_fault : List ℕ → ℕ → Option HeadFault
-end_fault bytes place = if nat_le (length bytes) place then None else code_fault bytes place slh_code
+-- Headers
 
--- why bytes are no header that is read, in this order
+-- the first fault of bytes that are to begin with a header
 abbrev pub head_fault : List ℕ → Option HeadFault
-head_fault bytes =
-    first_some (
-    code_fault bytes 0 soc_code
-    ∷ segment_fault bytes 2 cap_code 2
-    ∷ segment_fault bytes 6 pih_code 26
-    ∷ fields_fault (picture_rules (picture_at bytes))
-    ∷ segment_fault bytes 34 cdt_code 4
-    ∷ fields_fault (component_rules (segment_body_at bytes 34 4))
-    ∷ segment_fault bytes 40 wgt_code (table_size (picture_at bytes))
-    ∷ end_fault bytes (end_of (picture_at bytes))
-    ∷ []
-    )
+head_fault bytes = elim (segments_of bytes) [ Err fault ↦ Some fault | Ok found ↦ end_fault bytes found.0 found.1 ]
+
+-- the header, and where it ends
+abbrev pub header_at : List ℕ → Header
+header_at bytes = header_of_seen bytes (result_unwrap_or (segments_of bytes) (nothing_seen, 0)).0
+
+abbrev pub header_end : List ℕ → ℕ
+header_end bytes = (result_unwrap_or (segments_of bytes) (nothing_seen, 0)).1

@@ -1,4 +1,4 @@
-// The codes of a header.
+// The codes of a header: docs/FORMAT.md, 'Codestream layout'.
 
 /// The marker that begins a codestream.
 pub const SOC: u16 = 0xff10;
@@ -14,6 +14,21 @@ pub const CDT: u16 = 0xff13;
 
 /// The table of weights.
 pub const WGT: u16 = 0xff14;
+
+/// A comment.
+pub const COM: u16 = 0xff15;
+
+/// Nonlinearity.
+pub const NLT: u16 = 0xff16;
+
+/// Component-dependent wavelet decomposition.
+pub const CWD: u16 = 0xff17;
+
+/// Colour transformation specification.
+pub const CTS: u16 = 0xff18;
+
+/// Component registration.
+pub const CRG: u16 = 0xff19;
 
 /// The marker that begins a slice.
 pub const SLH: u16 = 0xff20;

@@ -1,18 +1,21 @@
 // The fields of a picture header.
-ghost use Rattle.std.specs.Prelude.{◌≡◌, ◌+◌, ◌*◌, ◌<◌, ◌^◌, length, max};
+ghost use Rattle.std.specs.Prelude.{◌≡◌, ◌+◌, ◌*◌, ◌<◌, ◌≤◌, ◌^◌, IfOk, length, max};
+ghost use Rattle.std.specs.Result.{result_err};
 ghost use Rattle.xs_layout.specs.Geometry.{slice_count_of};
-ghost use Rattle.xs_markers.specs.Reading.{bands_of_fields, end_of, header_of_fields, picture_fields_of, table_size};
-ghost use Rattle.xs_markers.specs.Values.{picture_rules};
+ghost use Rattle.xs_markers.specs.Reading.{header_of_fields};
+ghost use Rattle.xs_markers.specs.Segments.{bands_of_fields, picture_fields_of};
+ghost use Rattle.xs_markers.specs.Values.{fields_fault, picture_rules};
+ghost use Rattle.xs_markers.specs.Seen.{IsLimited};
 
 use crate::numbers::{field, half_word_at, word_at};
-use crate::rules::{FieldRule, exactly, tested, within};
-use xs_faults::HeadField;
+use crate::rules::{FieldRule, exactly, first_refused, tested, within};
+use xs_faults::{HeadFault, HeadField};
 use xs_layout::limits::{
-    LEAST_HEIGHT, LEAST_WIDTH, MOST_ACROSS, MOST_AREA, MOST_DOWN, MOST_HEIGHT, MOST_SLICES,
-    MOST_WIDTH,
+    LEAST_HEIGHT, LEAST_WIDTH, MOST_ACROSS, MOST_AREA, MOST_DOWN, MOST_HEIGHT, MOST_RUN_MODE,
+    MOST_SLICES, MOST_WIDTH,
 };
 use xs_layout::{ceil_div, fq_of, is_precision};
-use xs_params::{Format, Header, Quant, Shape, Weights};
+use xs_params::{Header, Quant, Shape, Weights};
 
 /// What a picture header says, by the names of its fields in ISO/IEC 21122-1. Those that have no effect are left out.
 #[derive(Clone, Copy)]
@@ -69,6 +72,18 @@ impl PictureFields {
         }
     }
 
+    /// The same, if none of their values is refused.
+    pub fn read(body: &[u8]) -> Result<PictureFields, HeadFault>
+        requires size { length body.now ≡ 24 }
+        ensures first { result_err result ≡ fields_fault (picture_rules (picture_fields_of body.now)) }
+        ensures fields { IfOk result (λ p. p ≡ picture_fields_of body.now) }
+        ensures limited { IfOk result IsLimited }
+    {
+        let picture = PictureFields::of(body);
+        first_refused(&picture.rules())?;
+        Ok(picture)
+    }
+
     // The number of slices.
     fn slices(&self) -> u32
         requires down { self.now.nly < 16 }
@@ -90,13 +105,18 @@ impl PictureFields {
         ensures rules { result ≡ picture_rules self.now }
     {
         let down = u32::from(MOST_DOWN.min(self.nlx));
+        let colour = self.cpih == 0 || self.cpih == 1 && self.nc == 3;
         [
             within(HeadField::Wf, LEAST_WIDTH, MOST_WIDTH, u32::from(self.wf)),
             within(HeadField::Hf, LEAST_HEIGHT, MOST_HEIGHT, u32::from(self.hf)),
             within(HeadField::Area, 0, MOST_AREA as u32, self.area()),
             exactly(HeadField::Cw, 0, u32::from(self.cw)),
             tested(HeadField::Hsl, self.hsl > 0, u32::from(self.hsl)),
-            exactly(HeadField::Nc, 1, u32::from(self.nc)),
+            tested(
+                HeadField::Nc,
+                self.nc == 1 || self.nc == 3,
+                u32::from(self.nc),
+            ),
             exactly(HeadField::Ng, 4, u32::from(self.ng)),
             exactly(HeadField::Ss, 8, u32::from(self.ss)),
             tested(HeadField::Bw, is_precision(self.bw), u32::from(self.bw)),
@@ -104,7 +124,7 @@ impl PictureFields {
             exactly(HeadField::Br, 4, u32::from(self.br)),
             exactly(HeadField::Fslc, 0, u32::from(self.fslc)),
             exactly(HeadField::Ppoc, 0, u32::from(self.ppoc)),
-            exactly(HeadField::Cpih, 0, u32::from(self.cpih)),
+            tested(HeadField::Cpih, colour, u32::from(self.cpih)),
             within(
                 HeadField::Nlx,
                 1,
@@ -113,55 +133,46 @@ impl PictureFields {
             ),
             within(HeadField::Nly, 0, down, u32::from(self.nly)),
             within(HeadField::Slices, 0, MOST_SLICES, self.slices()),
-            exactly(HeadField::Qpih, 0, u32::from(self.qpih)),
-            exactly(HeadField::Fs, 0, u32::from(self.fs)),
-            exactly(HeadField::Rm, 0, u32::from(self.rm)),
+            within(HeadField::Qpih, 0, 1, u32::from(self.qpih)),
+            within(HeadField::Fs, 0, 1, u32::from(self.fs)),
+            within(
+                HeadField::Rm,
+                0,
+                u32::from(MOST_RUN_MODE),
+                u32::from(self.rm),
+            ),
         ]
     }
 
-    // The number of bands.
-    fn bands(&self) -> u16
+    /// The number of bands.
+    pub fn bands(&self) -> u16
+        requires limited { IsLimited self.now }
         ensures count { result ≡ bands_of_fields self.now }
-        ensures few { result < 2 ^ 10 }
+        ensures few { result ≤ 30 }
     {
-        2 * u16::from(self.nly) + u16::from(self.nlx) + 1
+        (2 * u16::from(self.nly) + u16::from(self.nlx) + 1) * u16::from(self.nc)
     }
 
-    /// The length of the table of weights.
-    pub fn table_size(&self) -> u16
-        ensures { result ≡ table_size self.now }
-    {
-        2 + 2 * self.bands()
-    }
-
-    /// Where the header ends.
-    pub fn end(&self) -> usize
-        ensures { result ≡ end_of self.now }
-    {
-        44 + 2 * usize::from(self.bands())
-    }
-
-    /// The header with these fields, whose values were accepted, and these weights.
-    pub fn header(&self, weights: Weights) -> Header
-        ensures header { result ≡ header_of_fields self.now weights }
+    /// The header with these fields, whose values were accepted, this shape and these weights.
+    pub fn header(&self, shape: Shape, weights: Weights) -> Header
+        ensures header { result ≡ header_of_fields self.now shape weights }
     {
         Header {
             lcod: self.lcod,
-            shape: Shape {
-                width: u32::from(self.wf),
-                height: u32::from(self.hf),
-                format: Format::Mono,
-                depth: 8,
-            },
+            shape,
             hsl: self.hsl,
             bw: self.bw,
             fq: self.fq,
-            colour: false,
+            colour: self.cpih == 1,
             nlx: self.nlx,
             nly: self.nly,
             long_heads: self.lh,
-            quant: Quant::DeadZone,
-            signs_apart: false,
+            quant: if self.qpih == 1 {
+                Quant::Uniform
+            } else {
+                Quant::DeadZone
+            },
+            signs_apart: self.fs == 1,
             run_mode: self.rm,
             weights,
         }

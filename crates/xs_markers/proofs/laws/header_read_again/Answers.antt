@@ -1,4 +1,4 @@
-use Rattle.xs_markers.proofs.ReadAgain.{header_read_again}
+use Rattle.xs_markers.proofs.UnitsKnown.{header_read_again}
 use Rattle.xs_markers.proofs.laws.header_read_again.Goals as goal
 
 pub returns : goal.returns
