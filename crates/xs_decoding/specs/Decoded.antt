@@ -7,7 +7,7 @@ use Rattle.xs_signal.specs.Wavelet.{Bands}
 use Rattle.xs_signal.specs.Picture.{decoded_picture}
 use Rattle.xs_grammar.specs.Precinct.{Content}
 use Rattle.xs_rate.specs.Coefficients.{Rows, signal_of}
-use Rattle.xs_decoding.specs.Dequantised.{dequantised_rows}
+use Rattle.xs_reading.specs.Rows.{dequantised_rows}
 
 -- the number of the type HL of a level; LH and HH of a level that is split both ways are the next two
 abbrev pub level_type : Header → ℕ → ℕ

@@ -1,14 +1,11 @@
 -- Laws of decoding.
-use Rattle.std.specs.Prelude.{◌≡◌, ℕ, ◌<◌, ◌≤◌, false, List, ◌++◌}
+use Rattle.std.specs.Prelude.{◌≡◌, ℕ, ◌<◌}
 use Rattle.xs_params.specs.declared.header.Header.{Header}
 use Rattle.xs_params.specs.Picture.{IsPlace}
 use Rattle.xs_signal.specs.Wavelet.{band_plane}
 use Rattle.xs_params.specs.Geometry.{bands_of, band_component, band_type_of, band_width_of, band_height_of}
 use Rattle.xs_params.specs.Accepted.{IsAccepted}
 use Rattle.xs_rate.specs.Coefficients.{Rows}
-use Rattle.xs_grammar.specs.Precinct.{Content}
-use Rattle.xs_grammar.specs.Laws.{SamePrecinct}
-use Rattle.xs_decoding.specs.Built.{IsBuiltPrecinct, IsUnbuilt}
 use Rattle.xs_decoding.specs.Decoded.{component_bands, decoded_sample}
 
 -- the plane of each band is found by the band's type
@@ -25,18 +22,3 @@ SameRowsWithin h rows other =
 abbrev pub DecodedWithin : Type 0
 DecodedWithin = (h : Header) (rows other : Rows) (component row column : ℕ) → IsAccepted h → SameRowsWithin h rows other → IsPlace h.shape component row column
     → decoded_sample h rows component row column ≡ decoded_sample h other component row column
-
--- a precinct ends where its header says, whatever it holds
-abbrev pub PrecinctEnds : Type 0
-PrecinctEnds = (h : Header) (content other : Content) (precinct : ℕ) (a b y z : List ℕ) → IsBuiltPrecinct h content precinct a → IsBuiltPrecinct h other precinct b
-    → a ++ y ≡ b ++ z → y ≡ z
-
--- the bytes of a precinct of the form that is read are of one content there
-abbrev pub OnePrecinct : Type 0
-OnePrecinct = (h : Header) (content other : Content) (precinct : ℕ) (a b y z : List ℕ) → h.nly ≤ h.nlx → IsBuiltPrecinct h content precinct a → IsBuiltPrecinct h other precinct b
-    → a ++ y ≡ b ++ z → SamePrecinct h content other precinct
-
--- no such precinct is of a form that is not read yet, whatever follows it
-abbrev pub BuiltIsBuilt : Type 0
-BuiltIsBuilt = (h : Header) (content : Content) (precinct packet : ℕ) (part more : List ℕ) → IsAccepted h → h.run_mode ≡ 0 → h.signs_apart ≡ false
-    → IsBuiltPrecinct h content precinct part → IsUnbuilt h precinct (part ++ more) packet → ⊥

@@ -1,4 +1,2 @@
-pub mod Dequantised
 pub mod Decoded
-pub mod Built
 pub mod Laws

@@ -10,7 +10,7 @@ use Rattle.xs_lists.specs.Spelling.{upto, downto}
 use Rattle.xs_spelling.specs.Data.{columns_of, plane_bits}
 use Rattle.xs_spelling.specs.Written.{sign_of, group_bits}
 use Rattle.xs_spelling.specs.Sizes.{numbered}
-use Rattle.xs_planes.specs.Numbers.{four_at, level_of, planes_of, signs_with}
+use Rattle.xs_planes.specs.Numbers.{four_at, level_of, bit_planes_of, signs_with}
 use Rattle.xs_lists.proofs.Ranges.{range_first}
 
 four : (a b c d e f g h : ℕ) → a ≡ e → b ≡ f → c ≡ g → d ≡ h → a ∷ b ∷ c ∷ d ∷ [] ≡ e ∷ f ∷ g ∷ h ∷ []
@@ -42,12 +42,12 @@ same_planes t counts values group count first (suc n) =
     ∙ ap (λ l. level_of (four_at values group) (count - t - (first + 1)) ++ l) (same_planes t counts values group count (first + 1) n)
 
 planes_spelled : (t : ℕ) (counts : List ℕ) (values : List ℤ) (group count : ℕ)
-    → flat_map (plane_bits (numbered t counts values) group) (downto count t) ≡ planes_of (four_at values group) (count - t)
+    → flat_map (plane_bits (numbered t counts values) group) (downto count t) ≡ bit_planes_of (four_at values group) (count - t)
 planes_spelled t counts values group count =
     flat_map-map (plane_bits (numbered t counts values) group) (λ i. count - (i + 1)) (upto (count - t)) ∙ same_planes t counts values group count 0 (count - t)
 
 pub group_spelled : (apart : Bool) (t : ℕ) (counts : List ℕ) (values : List ℤ) (group : ℕ) (some : Bool) → nat_lt t (slice_index_or counts group 0) ≡ some
-    → group_bits apart (numbered t counts values) group ≡ (if some then signs_with apart (four_at values group) ++ planes_of (four_at values group) (slice_index_or counts group 0 - t) else [])
+    → group_bits apart (numbered t counts values) group ≡ (if some then signs_with apart (four_at values group) ++ bit_planes_of (four_at values group) (slice_index_or counts group 0 - t) else [])
 group_spelled apart t counts values group some e = cases apart some e
   where
     count : ℕ
@@ -59,7 +59,7 @@ group_spelled apart t counts values group some e = cases apart some e
     with : Bool → Bool → List ℕ
     with apart some = (if some && not apart then map (sign_of (numbered t counts values)) (columns_of group) else []) ++ planes
 
-    cases : (apart some : Bool) → nat_lt t count ≡ some → with apart (nat_lt t count) ≡ (if some then signs_with apart (four_at values group) ++ planes_of (four_at values group) (count - t) else [])
+    cases : (apart some : Bool) → nat_lt t count ≡ some → with apart (nat_lt t count) ≡ (if some then signs_with apart (four_at values group) ++ bit_planes_of (four_at values group) (count - t) else [])
     cases true true e = ap (with true) e ∙ planes_spelled t counts values group count
     cases false true e = ap (with false) e ∙ ap (λ l. signs_with false (four_at values group) ++ l) (planes_spelled t counts values group count)
     cases apart false e =

@@ -11,7 +11,7 @@ use Rattle.std.proofs.lemmas.Nat.{pow-add, shr_high, mod_low}
 use Rattle.xs_lists.specs.Bits.{bits_of, bit_of}
 use Rattle.xs_bits.proofs.Laws.{join_below}
 use Rattle.xs_lists.proofs.Bits.{bits_cat}
-use Rattle.xs_planes.specs.Numbers.{AreCodes, AreParts, code_of, level_of, planes_of, spread_to}
+use Rattle.xs_planes.specs.Numbers.{AreCodes, AreParts, code_of, level_of, bit_planes_of, spread_to}
 use Rattle.xs_planes.proofs.Groups.{joined_bits}
 
 -- the highest plane comes first
@@ -23,7 +23,7 @@ one_lower numbers planes first (suc n) =
     ap (λ k. level_of numbers k ++ flat_map (λ i. level_of numbers (planes + 1 - (i + 1))) (range_with_len (first + 1 + 1) n)) level
     ∙ ap (λ l. level_of numbers (planes - (first + 1)) ++ l) (one_lower numbers planes (first + 1) n)
 
-highest_first : (numbers : List ℤ) (planes : ℕ) → planes_of numbers (suc planes) ≡ level_of numbers planes ++ planes_of numbers planes
+highest_first : (numbers : List ℤ) (planes : ℕ) → bit_planes_of numbers (suc planes) ≡ level_of numbers planes ++ bit_planes_of numbers planes
 highest_first numbers planes =
     let more : suc planes ≡ planes + 1 = omega arith in
     let top : planes + 1 - (0 + 1) ≡ planes = omega arith in
@@ -46,7 +46,7 @@ spread_small (suc n) number =
     omega (arith, four_up n, spread_small n number, bit_most (number / 2 ^ n % 2) (2 ^ (4 * n)) bit)
 
 pub spread_bits : (a b c d : ℤ) (planes : ℕ)
-    → bits_of (4 * planes) (spread_to planes (unsigned_abs a) * 8 + spread_to planes (unsigned_abs b) * 4 + spread_to planes (unsigned_abs c) * 2 + spread_to planes (unsigned_abs d)) ≡ planes_of (a ∷ b ∷ c ∷ d ∷ []) planes
+    → bits_of (4 * planes) (spread_to planes (unsigned_abs a) * 8 + spread_to planes (unsigned_abs b) * 4 + spread_to planes (unsigned_abs c) * 2 + spread_to planes (unsigned_abs d)) ≡ bit_planes_of (a ∷ b ∷ c ∷ d ∷ []) planes
 unfolding bits_of
 spread_bits a b c d zero = refl
 spread_bits a b c d (suc n) =
@@ -119,7 +119,7 @@ parts_within numbers planes all word size less small e =
 
 -- and the number that has both
 pub parts_joined : (numbers : List ℤ) (planes signs low number : ℕ) → AreParts numbers planes signs low → number ≡ signs * 2 ^ (4 * planes) + low
-    → (number < 2 ^ (4 * planes + 4)) × (bits_of (4 * planes + 4) number ≡ map (λ z. bit_of (is_negative z)) numbers ++ planes_of numbers planes)
+    → (number < 2 ^ (4 * planes + 4)) × (bits_of (4 * planes + 4) number ≡ map (λ z. bit_of (is_negative z)) numbers ++ bit_planes_of numbers planes)
 parts_joined numbers planes signs low number are e =
     let size : 4 + 4 * planes ≡ 4 * planes + 4 = omega arith in
     let room : number < 2 ^ (4 + 4 * planes) = rw (e) (join_below signs low 4 (4 * planes) are.nibble are.small) in (

@@ -45,8 +45,8 @@ abbrev pub level_of : List ℤ → ℕ → List ℕ
 level_of numbers level = map (λ z. unsigned_abs z / 2 ^ level % 2) numbers
 
 -- so many planes, from the highest down
-abbrev pub planes_of : List ℤ → ℕ → List ℕ
-planes_of numbers planes = flat_map (λ i. level_of numbers (planes - (i + 1))) (upto planes)
+abbrev pub bit_planes_of : List ℤ → ℕ → List ℕ
+bit_planes_of numbers planes = flat_map (λ i. level_of numbers (planes - (i + 1))) (upto planes)
 
 -- a magnitude of so many planes, of those that the bits begin with, and the number at one of the four columns
 abbrev pub magnitude_at : ℕ → List ℕ → ℕ → ℕ
@@ -78,7 +78,7 @@ pub record AreCodes (table : List ℕ) : Type 0 where
 pub record AreParts (numbers : List ℤ) (planes signs low : ℕ) : Type 0 where
   pub signed : bits_of 4 signs ≡ map (λ z. bit_of (is_negative z)) numbers
   pub nibble : signs < 16
-  pub spelled : bits_of (4 * planes) low ≡ planes_of numbers planes
+  pub spelled : bits_of (4 * planes) low ≡ bit_planes_of numbers planes
   pub small : low < 2 ^ (4 * planes)
 
 -- one of the four columns of so many nibbles, as a number

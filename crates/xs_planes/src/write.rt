@@ -5,7 +5,7 @@ ghost use Rattle.xs_lists.specs.Bits.{bits_of, bit_of};
 ghost use Rattle.xs_spelling.specs.Data.{sign_bits};
 ghost use Rattle.xs_spelling.specs.Sizes.{data_size, numbered, signs_size};
 ghost use Rattle.xs_spelling.specs.Written.{line_data_bits};
-ghost use Rattle.xs_planes.specs.Numbers.{AreCodes, AreNumbers, AreParts, code_of, four_at, planes_of, signs_with, spread_to};
+ghost use Rattle.xs_planes.specs.Numbers.{AreCodes, AreNumbers, AreParts, code_of, four_at, bit_planes_of, signs_with, spread_to};
 
 use crate::sizes::has_sign;
 use crate::tables::CODES;
@@ -47,7 +47,7 @@ fn write_group(out: &mut BitWriter, numbers: [i32; 4], planes: u8, signs_apart: 
     requires few { planes ≤ 15 }
     requires small { All (λ z. unsigned_abs z < 2 ^ planes) numbers }
     requires room { (if signs_apart then 0 else 4) + 4 * planes ≤ out.old.spare }
-    ensures bits { out.new.bits ≡ out.old.bits ++ (signs_with signs_apart numbers ++ planes_of numbers planes) }
+    ensures bits { out.new.bits ≡ out.old.bits ++ (signs_with signs_apart numbers ++ bit_planes_of numbers planes) }
     ensures spare { out.old.spare ≤ out.new.spare + ((if signs_apart then 0 else 4) + 4 * planes) }
 {
     let (signs, low) = parts(&numbers, planes);

@@ -20,7 +20,7 @@ use Rattle.xs_grammar.specs.Precinct.{Content, coded_line, is_first_line, line_t
 use Rattle.xs_grammar.proofs.OneSlice.{truncation_at, not_first}
 use Rattle.xs_grammar.proofs.Local.{predictor_same, line_with}
 use Rattle.xs_reading.specs.Packet.{packet_end, packet_fault, packet_lines}
-use Rattle.xs_reading.specs.Precinct.{with_line, with_lines, place_lines, with_packet, with_packets, packets_fault}
+use Rattle.xs_reading.specs.Precinct.{with_band_line, with_lines, place_lines, with_packet, with_packets, packets_fault}
 use Rattle.xs_reading.specs.Laws.{HasRange}
 use Rattle.xs_reading.proofs.Parts.{none_first, bytes-drop}
 use Rattle.xs_reading.proofs.Lines.{AreReadOf}
@@ -32,14 +32,14 @@ use Rattle.xs_reading.proofs.Spelled.{packet_spelled, packet_shaped}
 abbrev pub Same : Content → Content → ℕ → ℕ → Type 0
 Same content other band line = (content.count band line ≡ other.count band line) × (content.value band line ≡ other.value band line)
 
-other_line : (content : Content) (band number : ℕ) (line : Line) (b l : ℕ) → (l ≡ number → b ≡ band → ⊥) → Same (with_line content band number line) content b l
+other_line : (content : Content) (band number : ℕ) (line : Line) (b l : ℕ) → (l ≡ number → b ≡ band → ⊥) → Same (with_band_line content band number line) content b l
 other_line content band number line b l apart = cases (nat_eq b band && nat_eq l number) refl
   where
     cases : (test : Bool) → (nat_eq b band && nat_eq l number) ≡ test → ((if test then line.count else content.count b l) ≡ content.count b l) × ((if test then line.value else content.value b l) ≡ content.value b l)
     cases false e = (refl, refl)
     cases true e = let both = and_parts (nat_eq b band) (nat_eq l number) e in absurd (apart (eqb-true l number both.1) (eqb-true b band both.0))
 
-own_line : (content : Content) (band number : ℕ) (line : Line) → ((with_line content band number line).count band number ≡ line.count) × ((with_line content band number line).value band number ≡ line.value)
+own_line : (content : Content) (band number : ℕ) (line : Line) → ((with_band_line content band number line).count band number ≡ line.count) × ((with_band_line content band number line).value band number ≡ line.value)
 own_line content band number line = cases (nat_eq band band) (nat_eq number number) (eq-eqb band band refl) (eq-eqb number number refl)
   where
     cases : (s t : Bool) → s ≡ true → t ≡ true → ((if s && t then line.count else content.count band number) ≡ line.count) × ((if s && t then line.value else content.value band number) ≡ line.value)
@@ -51,7 +51,7 @@ pub lines_leave : (content : Content) (number : ℕ) (bands : List ℕ) (lines :
 lines_leave content number [] lines b l apart = (refl, refl)
 lines_leave content number (band ∷ bands) [] b l apart = (refl, refl)
 lines_leave content number (band ∷ bands) (line ∷ lines) b l apart =
-    let rest = lines_leave (with_line content band number line) number bands lines b l (λ e. (apart e).1) in
+    let rest = lines_leave (with_band_line content band number line) number bands lines b l (λ e. (apart e).1) in
     let here = other_line content band number line b l (λ e. (apart e).0) in
     (rest.0 ∙ here.0, rest.1 ∙ here.1)
 
@@ -62,7 +62,7 @@ lines_given known content number first zero [] m = refl
 lines_given known content number first zero (line ∷ lines) m = absurd m
 lines_given known content number first (suc n) [] m = absurd m
 lines_given known content number first (suc n) (line ∷ lines) m =
-    let next : Content = with_line content first number line in
+    let next : Content = with_band_line content first number line in
     let after : Content = with_lines next number (range_with_len (first + 1) n) lines in
     let kept = lines_leave next number (range_with_len (first + 1) n) lines first number (λ _. range-all (λ band. first ≡ band → ⊥) (first + 1) n (λ band low high e. omega (arith, low, e))) in
     let own = own_line content first number line in
@@ -73,14 +73,14 @@ lines_given known content number first (suc n) (line ∷ lines) m =
 pub lines_settings : (content : Content) (number : ℕ) (bands : List ℕ) (lines : List Line) → ((with_lines content number bands lines).q ≡ content.q) × ((with_lines content number bands lines).r ≡ content.r)
 lines_settings content number [] lines = (refl, refl)
 lines_settings content number (band ∷ bands) [] = (refl, refl)
-lines_settings content number (band ∷ bands) (line ∷ lines) = lines_settings (with_line content band number line) number bands lines
+lines_settings content number (band ∷ bands) (line ∷ lines) = lines_settings (with_band_line content band number line) number bands lines
 
 pub lines_range : (h : Header) (content : Content) (number : ℕ) (bands : List ℕ) (known lines : List Line) → HasRange h content → AreReadOf known lines → HasRange h (with_lines content number bands lines)
 lines_range h content number [] known lines range m = range
 lines_range h content number (band ∷ bands) known [] range m = range
 lines_range h content number (band ∷ bands) [] (line ∷ lines) range m = absurd m
 lines_range h content number (band ∷ bands) (k ∷ known) (line ∷ lines) range m =
-    lines_range h (with_line content band number line) number bands known lines (λ b l group. cases (nat_eq b band && nat_eq l number) b l group) m.1
+    lines_range h (with_band_line content band number line) number bands known lines (λ b l group. cases (nat_eq b band && nat_eq l number) b l group) m.1
   where
     cases : (test : Bool) (b l group : ℕ) → (if test then line.count else content.count b l) group ≤ 15
     cases true b l group = m.0.1 group

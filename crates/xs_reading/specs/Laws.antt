@@ -22,8 +22,8 @@ use Rattle.xs_reading.specs.Stream.{body_fault}
 -- Packets
 
 -- the lines of a list are those of some bands
-abbrev pub AreLinesOf : (ℕ → Line) → List ℕ → List Line → Type 0
-AreLinesOf line bands lines = map line bands ≡ lines
+abbrev pub AreBandLines : (ℕ → Line) → List ℕ → List Line → Type 0
+AreBandLines line bands lines = map line bands ≡ lines
 
 -- what is known of each of the lines before they are read
 abbrev pub ArePredicted : List Line → Type 0
@@ -33,14 +33,14 @@ ArePredicted lines = AllByRecursion IsPredicted lines
 -- has its own flags
 abbrev pub PacketSpelled : Type 0
 PacketSpelled = (h : Header) (packet first count : ℕ) (line : ℕ → Line) (lines : List Line) (bytes : List ℕ) → AreBytes bytes → ArePredicted lines → packet_fault h packet lines bytes ≡ None
-    → AreLinesOf line (range_with_len first count) (packet_lines h lines bytes)
+    → AreBandLines line (range_with_len first count) (packet_lines h lines bytes)
     → (packet_end h lines bytes ≤ length bytes) × IsPacket h (range_with_len first count) line (take (packet_end h lines bytes) bytes)
 
 -- the packet of some lines has no fault, whatever follows it, and is read as those lines
 pub record IsPacketKnown (h : Header) (packet : ℕ) (bands : List ℕ) (line : ℕ → Line) (lines : List Line) (part rest : List ℕ) : Type 0 where
   pub no_fault : packet_fault h packet lines (part ++ rest) ≡ None
   pub ends : packet_end h lines (part ++ rest) ≡ length part
-  pub same : (other : ℕ → Line) → AreLinesOf other bands (packet_lines h lines (part ++ rest)) → AllByRecursion (λ band. SameLine (line band) (other band)) bands
+  pub same : (other : ℕ → Line) → AreBandLines other bands (packet_lines h lines (part ++ rest)) → AllByRecursion (λ band. SameLine (line band) (other band)) bands
 
 abbrev pub PacketKnown : Type 0
 PacketKnown = (h : Header) (packet : ℕ) (bands : List ℕ) (line known : ℕ → Line) (part rest : List ℕ) → AllByRecursion (λ band. SameBefore (line band) (known band)) bands

@@ -45,8 +45,8 @@ abbrev pub with_head : Content → ℕ → ℕ → ℕ → Content
 with_head content precinct q r = record content { q = λ p. if nat_eq p precinct then q else content.q p; r = λ p. if nat_eq p precinct then r else content.r p }
 
 -- the content with a line of a band
-abbrev pub with_line : Content → ℕ → ℕ → Line → Content
-with_line content band number line = record content {
+abbrev pub with_band_line : Content → ℕ → ℕ → Line → Content
+with_band_line content band number line = record content {
   count = λ b l. if nat_eq b band && nat_eq l number then line.count else content.count b l;
   value = λ b l. if nat_eq b band && nat_eq l number then line.value else content.value b l;
 }
@@ -55,7 +55,7 @@ with_line content band number line = record content {
 abbrev pub with_lines : Content → ℕ → List ℕ → List Line → Content
 with_lines content number [] lines = content
 with_lines content number (band ∷ bands) [] = content
-with_lines content number (band ∷ bands) (line ∷ lines) = with_lines (with_line content band number line) number bands lines
+with_lines content number (band ∷ bands) (line ∷ lines) = with_lines (with_band_line content band number line) number bands lines
 
 -- Packets
 

@@ -1,16 +1,2 @@
-pub mod Counted
-pub mod Numbered
-pub mod Heads
-pub mod Parts
-pub mod PrecinctHeads
-pub mod Placed
-pub mod Started
-pub mod Puts
-pub mod Walked
 pub mod Precincts
-pub mod Plain
-pub mod PlainPrecincts
-pub mod Rows
-pub mod Slices
-pub mod Unbuilt
-pub mod StoppedIn
+pub mod Units

@@ -1,3 +1,2 @@
-pub mod Packet
-pub mod Precinct
-pub mod Slice
+pub mod Read
+pub mod Unit

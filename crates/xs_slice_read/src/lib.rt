@@ -1,9 +1,9 @@
-//! One slice of a codestream, read from its bytes: its precincts, their packets, and the lines of the bands in them.
+//! One slice of a codestream, read from its bytes.
 #![tactic(auto)]
 
-mod packet;
-mod precinct;
 mod slice;
+mod unit;
 
-pub use slice::read_front;
+pub use slice::{read_front, read_slice};
+pub use unit::read_unit;
 pub use xs_faults::{Part, PrecinctFault, SliceFault};

@@ -4,7 +4,7 @@ use Rattle.std.proofs.lemmas.Bool.{lt-ltb, le-ltb}
 use Rattle.xs_bits.specs.Written.{Written}
 use Rattle.xs_spelling.specs.Sizes.{group_size, numbered}
 use Rattle.xs_spelling.specs.Written.{group_bits, line_data_bits}
-use Rattle.xs_planes.specs.Numbers.{four_at, planes_of, signs_with}
+use Rattle.xs_planes.specs.Numbers.{four_at, bit_planes_of, signs_with}
 use Rattle.xs_lists.proofs.Ranges.{sum_first, bits_first}
 use Rattle.xs_planes.proofs.Groups.{group_spelled}
 use Rattle.xs_planes.proofs.write.write_data.Goals.{then-count-t, else-count-t}
@@ -38,8 +38,8 @@ groups-preserved c =
           record {
             bits = bits_first (group_bits apart line) group (length c.args.counts.now) out c.if-count-t.out.bits (c.args.out.now.bits ++ line_data_bits apart line) (omega (arith, c.groups-test.true, ap length c.as_slice-items.ensures.items)) c.groups.invariant.bits
                 (ap (λ (o : Written). o.bits) w.out-is ∙ w.write_group.ensures.bits
-                ∙ ap (λ four. out ++ (signs_with apart four ++ planes_of four (slice_index_or c.as_slice-items.result.now group 0 - t))) w.numbers_at.ensures
-                ∙ ap (λ n. out ++ (signs_with apart (four_at values group) ++ planes_of (four_at values group) (n - t))) same
+                ∙ ap (λ four. out ++ (signs_with apart four ++ bit_planes_of four (slice_index_or c.as_slice-items.result.now group 0 - t))) w.numbers_at.ensures
+                ∙ ap (λ n. out ++ (signs_with apart (four_at values group) ++ bit_planes_of (four_at values group) (n - t))) same
                 ∙ ap (λ l. out ++ l) (sym (group_spelled apart t c.args.counts.now values group true some)));
             spare = omega (arith, ap (λ (o : Written). o.spare) w.out-is, w.write_group.ensures.spare, same, size, more, c.groups.invariant.spare);
           }

@@ -1,161 +1,92 @@
-use Rattle.std.proofs.Common.{◌≡◌, inl, inr, ℕ, ◌+◌, ◌*◌, ◌<◌, ◌≤◌, List, ◌++◌, map, take, drop, length, sym, ap, subst, ◌∙◌, arith, min, length-drop}
-use Rattle.std.specs.Prelude.{Result, Err}
-use Rattle.std.proofs.Math.Seq.{take-append_seam}
+use Rattle.std.proofs.Common.{◌≡◌, ℕ, ◌+◌, ◌-◌, ◌<◌, ◌≤◌, List, take, drop, length, sym, ap, subst, ◌∙◌, arith, length-drop}
+use Rattle.std.specs.Prelude.{replicate, Option, None, Some}
 use Rattle.xs_params.specs.declared.header.Header.{Header}
-use Rattle.xs_params.specs.Geometry.{precinct_count, geometry_of}
+use Rattle.xs_params.specs.Geometry.{bands_of}
 use Rattle.xs_geometry.specs.SliceLines.{AreLinesOf, BandLines}
-use Rattle.xs_geometry.proofs.WrittenRows.{accepted_ranges, geometry_kept}
-use Rattle.xs_faults.specs.declared.PrecinctFault.{PrecinctFault}
-use Rattle.xs_faults.specs.declared.PrecinctFault.TheVariants as precinct_fault
-use Rattle.xs_decoding.specs.Built.{HasBuiltValues, IsUnbuilt, IsWholePrecinct}
-use Rattle.xs_decoding.proofs.Precincts.{precinct_ends, built_is_local}
-use Rattle.xs_read_lines.specs.ReadLine.{Buffered}
-use Rattle.xs_slice_read.specs.Precinct.{group_counts, IsPrecinctRead, IsPrecinctRefusal}
-use Rattle.xs_slice_read.specs.Slice.{IsSliceRefusal, IsStoppedIn}
-use Rattle.xs_slice_read.proofs.Started.{bands_counted}
-use Rattle.xs_params.specs.Accepted.{IsAccepted}
-use Rattle.xs_slice_read.proofs.Slices.{SliceSoFar, nothing_yet, in_precincts, so_far_more, slice_done, precinct_refused, rest_is}
-use Rattle.xs_slice_read.proofs.StoppedIn.{Stops, so_far_before, cut_stops, none_passed, refused_stopped, unbuilt_stops}
+use Rattle.xs_grammar.specs.Precinct.{Content}
+use Rattle.xs_precinct.specs.Held.{Last, above_of}
+use Rattle.xs_geometry.proofs.WrittenRows.{geometry_kept}
+use Rattle.xs_reading.specs.Precinct.{precinct_fault}
+use Rattle.xs_precinct.specs.Read.{IsPrecinctRead}
+use Rattle.xs_slice_read.proofs.Precincts.{SliceSoFar, are_bytes, end_of, ends_within, fault_after_head, in_slice, none_read, precincts_are, rest_is, slice_done, slice_more, slice_refused}
 use Rattle.xs_slice_read.proofs.slice.read_front.Goals as goal
-
-last : (a b : ℕ) → b ≤ a → a ≤ b → a ≡ b
-last a b p q = omega (arith, p, q)
-
--- the first precinct of the slice and the end of its last one, as the geometry has them
-not_before : (h g : Header) (slice first precinct : ℕ) → g ≡ geometry_of h → first ≡ slice * g.hsl → first ≤ precinct → slice * h.hsl ≤ precinct
-not_before h g slice first precinct e from low = omega (arith, from, low, ap (λ (g : Header). slice * g.hsl) e)
-
-end_is : (h g : Header) (slice end : ℕ) → g ≡ geometry_of h → end ≡ min ((slice + 1) * g.hsl) (precinct_count g) → end ≡ min ((slice + 1) * h.hsl) (precinct_count h)
-end_is h g slice end e to = to ∙ ap (λ (g : Header). min ((slice + 1) * g.hsl) (precinct_count g)) e
-
-err_one : {T : Type 0} (x y : PrecinctFault) → ◌≡◌ {A = Result T PrecinctFault} (Err x) (Err y) → x ≡ y
-err_one x y p = cc p
 
 pub precincts-init : goal.precincts-init
 precincts-init c =
     let h = c.args.header.now in
+    let slice = c.args.slice in
+    let are = precincts_are h c.of-geometry.result slice c.slice_precincts-first.result.0 c.slice_precincts-first.result.1 c.of-geometry.ensures c.slice_precincts-first.ensures.first c.slice_precincts-first.ensures.end in
     record {
-      groups = c.in_ok-bands.ensures.groups ∙ ap group_counts c.of-geometry.ensures;
-      lines = (geometry_kept h c.args.slice c.in_ok-rows.rows).0 (subst (λ g. AreLinesOf g c.args.slice c.in_ok-rows.rows) c.of-geometry.ensures c.in_ok-rows.ensures.lines);
+      lines = (geometry_kept h slice c.in_ok-rows.rows).0 (subst (λ g. AreLinesOf g slice c.in_ok-rows.rows) c.of-geometry.ensures c.in_ok-rows.ensures.lines);
       within = c.if-bytes-lt-HEAD.false;
-      read = nothing_yet h c.args.slice c.in_ok-rows.rows c.args.bytes.now c.slice_precincts-first.result.0 (c.has_head.ensures.head c.if-not-has_head.false)
-          (c.slice_precincts-first.ensures.first ∙ ap (λ (g : Header). c.args.slice * g.hsl) c.of-geometry.ensures);
+      read = none_read h slice c.args.bytes.now c.in_ok-above.above c.in_ok-rows.rows c.slice_precincts-first.result.0 are.0 (c.in_ok-above.ensures.fresh ∙ ap (λ n. replicate n None) (c.bands.ensures.count ∙ ap bands_of c.of-geometry.ensures));
     }
 
 pub read_precinct-requires-clause-lines : goal.read_precinct-requires-clause-lines
 read_precinct-requires-clause-lines c =
     let h = c.args.header.now in
     let slice = c.args.slice in
-    let precinct = c.precincts.precinct in
-    let low = not_before h c.of-geometry.result slice c.slice_precincts-first.result.0 precinct c.of-geometry.ensures c.slice_precincts-first.ensures.first c.precincts.auto.precinct in
-    let high : precinct < min ((slice + 1) * h.hsl) (precinct_count h) = subst (λ n. precinct < n) (end_is h c.of-geometry.result slice c.slice_precincts-first.result.1 c.of-geometry.ensures c.slice_precincts-first.ensures.end) c.precincts-test.true in
-    (slice, c.precincts.invariant.lines, in_precincts h slice precinct low high)
+    let are = precincts_are h c.of-geometry.result slice c.slice_precincts-first.result.0 c.slice_precincts-first.result.1 c.of-geometry.ensures c.slice_precincts-first.ensures.first c.slice_precincts-first.ensures.end in
+    (slice, c.precincts.invariant.lines, in_slice h slice c.precincts.precinct (omega (arith, are.0, c.precincts.auto.precinct)) (omega (arith, are.1, c.precincts-test.true)))
+
+-- a precinct that was read ends within the bytes
+size_within : (h : Header) (slice : ℕ) (bytes : List ℕ) (above after : List (Option Last)) (rows into : List BandLines) (at p size : ℕ) → at ≤ length bytes → SliceSoFar h slice bytes above rows at p → p < end_of h slice
+    → ((content : Content) → above ≡ above_of h content p → IsPrecinctRead h p content (take (length bytes - at) (drop at bytes)) after rows into size) → at + size ≤ length bytes
+size_within h slice bytes above after rows into at p size within so inside read_of =
+    let rest = take (length bytes - at) (drop at bytes) in
+    let read : IsPrecinctRead h p so.now rest after rows into size = read_of so.now (so.held inside) in
+    omega (arith, ends_within h p so.now rest read.no_fault, read.ends, ap length (rest_is at bytes), length-drop at bytes, within)
+
+pub overflow_add-at : goal.overflow_add-at
+overflow_add-at c =
+    let h = c.args.header.now in
+    let slice = c.args.slice in
+    let are = precincts_are h c.of-geometry.result slice c.slice_precincts-first.result.0 c.slice_precincts-first.result.1 c.of-geometry.ensures c.slice_precincts-first.ensures.first c.slice_precincts-first.ensures.end in
+    let within = size_within h slice c.args.bytes.now c.precincts.above c.read_precinct.new.above c.precincts.rows c.read_precinct.new.into c.precincts.at c.precincts.precinct c.in-Ok.size c.precincts.invariant.within c.precincts.invariant.read (omega (arith, are.1, c.precincts-test.true))
+    (λ content e. c.in-Ok.ensures.read content e) in
+    omega (arith, within, c.requires.few)
 
 pub returns-in-Err-clause-refused : goal.returns-in-Err-clause-refused
-returns-in-Err-clause-refused c =
+returns-in-Err-clause-refused c = λ other.
     let h = c.args.header.now in
     let slice = c.args.slice in
-    let place = c.precincts.place in
     let bytes = c.args.bytes.now in
-    let precinct = c.precincts.precinct in
-    let low = not_before h c.of-geometry.result slice c.slice_precincts-first.result.0 precinct c.of-geometry.ensures c.slice_precincts-first.ensures.first c.precincts.auto.precinct in
-    let high : precinct < min ((slice + 1) * h.hsl) (precinct_count h) = subst (λ n. precinct < n) (end_is h c.of-geometry.result slice c.slice_precincts-first.result.1 c.of-geometry.ensures c.slice_precincts-first.ensures.end) c.precincts-test.true in
-    subst (IsSliceRefusal h slice bytes) (sym c.slice_fault.ensures)
-    (precinct_refused h slice c.precincts.rows bytes place precinct c.in-Err.fault precinct_ends c.requires.built.signs (accepted_ranges h c.requires.accepted).0 low high c.precincts.invariant.read
-    (subst (λ l. IsPrecinctRefusal h precinct l c.in-Err.fault) (rest_is place bytes) c.in-Err.ensures.refused))
-
-pub returns-in-Err-clause-unbuilt : goal.returns-in-Err-clause-unbuilt
-returns-in-Err-clause-unbuilt c = λ target packet u.
-    let h = c.args.header.now in
-    let slice = c.args.slice in
-    let place = c.precincts.place in
-    let bytes = c.args.bytes.now in
-    let precinct = c.precincts.precinct in
+    let at = c.precincts.at in
+    let p = c.precincts.precinct in
     let f = c.in-Err.fault in
-    let low = not_before h c.of-geometry.result slice c.slice_precincts-first.result.0 precinct c.of-geometry.ensures c.slice_precincts-first.ensures.first c.precincts.auto.precinct in
-    let none = subst (λ l. IsPrecinctRefusal h precinct l f) (rest_is place bytes) c.in-Err.ensures.refused in
-    elim (refused_stopped h slice bytes precinct target (drop place bytes) c.requires.accepted c.requires.built (so_far_before h slice c.precincts.rows bytes place precinct low c.precincts.invariant.read)
-    (λ precinct rest. IsUnbuilt h precinct rest packet) (unbuilt_stops h packet c.requires.accepted c.requires.built) u f (precinct_fault.Unbuilt packet) none
-    (λ p. elim (c.in-Err.ensures.unbuilt packet (subst (λ l. IsUnbuilt h precinct l packet) (sym (rest_is place bytes)) p)) [
-      | inl e ↦ inl (err_one f (precinct_fault.Unbuilt packet) e)
-      | inr e ↦ inr (err_one f precinct_fault.Memory e.1)
-    ])) [
-      | inl e ↦ inl (ap Err (c.slice_fault.ensures ∙ e))
-      | inr e ↦ inr (ap Err (c.slice_fault.ensures ∙ e))
-    ]
-
-pub returns-in-Err-clause-cut : goal.returns-in-Err-clause-cut
-returns-in-Err-clause-cut c = λ target u.
-    let h = c.args.header.now in
-    let slice = c.args.slice in
-    let place = c.precincts.place in
-    let bytes = c.args.bytes.now in
-    let precinct = c.precincts.precinct in
-    let f = c.in-Err.fault in
-    let low = not_before h c.of-geometry.result slice c.slice_precincts-first.result.0 precinct c.of-geometry.ensures c.slice_precincts-first.ensures.first c.precincts.auto.precinct in
-    let none = subst (λ l. IsPrecinctRefusal h precinct l f) (rest_is place bytes) c.in-Err.ensures.refused in
-    elim (refused_stopped h slice bytes precinct target (drop place bytes) c.requires.accepted c.requires.built (so_far_before h slice c.precincts.rows bytes place precinct low c.precincts.invariant.read)
-    (λ precinct rest. IsWholePrecinct h rest → ⊥) (cut_stops h c.requires.accepted c.requires.built) u f precinct_fault.Truncated none
-    (λ cut. inl (err_one f precinct_fault.Truncated (c.in-Err.ensures.cut (subst (λ l. IsWholePrecinct h l → ⊥) (sym (rest_is place bytes)) cut))))) [
-      | inl e ↦ inl (ap Err (c.slice_fault.ensures ∙ e))
-      | inr e ↦ inr (ap Err (c.slice_fault.ensures ∙ e))
-    ]
+    let are = precincts_are h c.of-geometry.result slice c.slice_precincts-first.result.0 c.slice_precincts-first.result.1 c.of-geometry.ensures c.slice_precincts-first.ensures.first c.slice_precincts-first.ensures.end in
+    let both = c.slice_fault.ensures other in
+    fault_after_head h slice bytes c.if-bytes-lt-HEAD.false (c.has_head.ensures.head c.if-not-has_head.false)
+    ∙ slice_refused h slice bytes c.precincts.above c.precincts.rows at p f c.precincts.invariant.read (omega (arith, are.1, c.precincts-test.true))
+    (λ content e. ap (precinct_fault h p content) (sym (rest_is at bytes)) ∙ c.in-Err.ensures.refused both.0 content e)
+    ∙ ap Some (sym both.1)
 
 pub precincts-preserved : goal.precincts-preserved
 precincts-preserved c =
     let h = c.args.header.now in
     let slice = c.args.slice in
     let bytes = c.args.bytes.now in
+    let at = c.precincts.at in
+    let p = c.precincts.precinct in
+    let above = c.precincts.above in
+    let after = c.read_precinct.new.above in
     let rows = c.precincts.rows in
-    let new = c.read_precinct.new.rows in
-    let place = c.precincts.place in
-    let precinct = c.precincts.precinct in
+    let into = c.read_precinct.new.into in
     let size = c.in-Ok.size in
-    let after = c.read_precinct.new.bands in
-    let low = not_before h c.of-geometry.result slice c.slice_precincts-first.result.0 precinct c.of-geometry.ensures c.slice_precincts-first.ensures.first c.precincts.auto.precinct in
-    let high : precinct < min ((slice + 1) * h.hsl) (precinct_count h) = subst (λ n. precinct < n) (end_is h c.of-geometry.result slice c.slice_precincts-first.result.1 c.of-geometry.ensures c.slice_precincts-first.ensures.end) c.precincts-test.true in
-    let before = bands_counted h c.precincts.bands.items c.precincts.invariant.groups in
-    let count = bands_counted h after c.in-Ok.ensures.groups in
-    let seam : take c.precincts.bands.len (after ++ drop (length after) c.precincts.bands.items) ≡ after =
-    ap (λ n. take n (after ++ drop (length after) c.precincts.bands.items)) (c.precincts.bands.ok.0 ∙ before ∙ sym count) ∙ take-append_seam after (drop (length after) c.precincts.bands.items) in
-    let read : IsPrecinctRead h precinct rows new (drop place bytes) size = subst (λ l. IsPrecinctRead h precinct rows new l size) (rest_is place bytes) c.in-Ok.ensures.read in
-    let lines : AreLinesOf h slice new = c.in-Ok.ensures.kept h slice c.precincts.invariant.lines in
+    let are = precincts_are h c.of-geometry.result slice c.slice_precincts-first.result.0 c.slice_precincts-first.result.1 c.of-geometry.ensures c.slice_precincts-first.ensures.first c.slice_precincts-first.ensures.end in
+    let inside : p < end_of h slice = omega (arith, are.1, c.precincts-test.true) in
+    let lines : AreLinesOf h slice into = c.in-Ok.ensures.lines h slice c.precincts.invariant.lines in
     record {
-      groups = ap (map (λ (band : Buffered). band.groups)) seam ∙ c.in-Ok.ensures.groups;
       lines = lines;
-      within = omega (arith, c.precincts.invariant.within, read.enough, length-drop place bytes);
-      read = so_far_more h slice rows new bytes place precinct size built_is_local c.requires.built.signs (accepted_ranges h c.requires.accepted).0 c.requires.there low high c.precincts.invariant.lines lines c.precincts.invariant.read read;
+      within = size_within h slice bytes above after rows into at p size c.precincts.invariant.within c.precincts.invariant.read inside (λ content e. c.in-Ok.ensures.read content e);
+      read = slice_more h slice bytes above after rows into at p size c.requires.accepted.geometry (omega (arith, are.0, c.precincts.auto.precinct)) inside c.precincts.invariant.lines lines c.precincts.invariant.read
+          (λ content e. subst (λ l. IsPrecinctRead h p content l after rows into size) (rest_is at bytes) (c.in-Ok.ensures.read content e));
     }
 
 pub returns-clause-read : goal.returns-clause-read
 returns-clause-read c =
     let h = c.args.header.now in
     let slice = c.args.slice in
-    let end : c.precincts.precinct ≡ min ((slice + 1) * h.hsl) (precinct_count h) =
-    last c.precincts.precinct c.slice_precincts-first.result.1 c.precincts-test.false (c.precincts.auto.precinct-end (omega (arith, c.slice_precincts-first.ensures.some)))
-    ∙ end_is h c.of-geometry.result slice c.slice_precincts-first.result.1 c.of-geometry.ensures c.slice_precincts-first.ensures.end in
-    slice_done h slice c.precincts.rows c.args.bytes.now c.precincts.place c.precincts.precinct (accepted_ranges h c.requires.accepted).0 c.precincts.invariant.within (omega (arith, c.requires.there, c.requires.accepted.geometry.slices)) c.precincts.invariant.lines end
-    c.precincts.invariant.read
-
--- not all precincts were gone over where one is none
-all_over : (h : Header) (slice : ℕ) (rows : List BandLines) (bytes : List ℕ) (place precinct target first end : ℕ) (g : Header) (stops : ℕ → List ℕ → Type 0) → IsAccepted h → HasBuiltValues h → g ≡ geometry_of h
-    → first ≡ slice * g.hsl → first ≤ precinct → precinct ≡ end → end ≡ min ((slice + 1) * g.hsl) (precinct_count g) → SliceSoFar h slice rows bytes place precinct → Stops h stops
-    → IsStoppedIn h slice bytes target (stops target) → ⊥
-all_over h slice rows bytes place precinct target first end g stops accepted built e from low last to so never u =
-    none_passed h slice bytes precinct target (drop place bytes) accepted built (so_far_before h slice rows bytes place precinct (not_before h g slice first precinct e from low) so) stops never u (last ∙ end_is h g slice end e to)
-
-pub returns-clause-cut : goal.returns-clause-cut
-returns-clause-cut c = λ target u.
-    let h = c.args.header.now in
-    absurd (all_over h c.args.slice c.precincts.rows c.args.bytes.now c.precincts.place c.precincts.precinct target c.slice_precincts-first.result.0 c.slice_precincts-first.result.1 c.of-geometry.result (λ precinct rest. IsWholePrecinct h rest → ⊥)
-    c.requires.accepted c.requires.built c.of-geometry.ensures c.slice_precincts-first.ensures.first c.precincts.auto.precinct
-    (last c.precincts.precinct c.slice_precincts-first.result.1 c.precincts-test.false (c.precincts.auto.precinct-end (omega (arith, c.slice_precincts-first.ensures.some)))) c.slice_precincts-first.ensures.end
-    c.precincts.invariant.read (cut_stops h c.requires.accepted c.requires.built) u)
-
-pub returns-clause-unbuilt : goal.returns-clause-unbuilt
-returns-clause-unbuilt c = λ target packet u.
-    let h = c.args.header.now in
-    absurd (all_over h c.args.slice c.precincts.rows c.args.bytes.now c.precincts.place c.precincts.precinct target c.slice_precincts-first.result.0 c.slice_precincts-first.result.1 c.of-geometry.result (λ precinct rest. IsUnbuilt h precinct rest packet)
-    c.requires.accepted c.requires.built c.of-geometry.ensures c.slice_precincts-first.ensures.first c.precincts.auto.precinct
-    (last c.precincts.precinct c.slice_precincts-first.result.1 c.precincts-test.false (c.precincts.auto.precinct-end (omega (arith, c.slice_precincts-first.ensures.some)))) c.slice_precincts-first.ensures.end
-    c.precincts.invariant.read (unbuilt_stops h packet c.requires.accepted c.requires.built) u)
+    let are = precincts_are h c.of-geometry.result slice c.slice_precincts-first.result.0 c.slice_precincts-first.result.1 c.of-geometry.ensures c.slice_precincts-first.ensures.first c.slice_precincts-first.ensures.end in
+    slice_done h slice c.args.bytes.now c.precincts.above c.precincts.rows c.precincts.at c.precincts.precinct c.requires.accepted c.requires.there (are_bytes c.args.bytes.now (λ i. omega (arith, c.type_inv.bytes i))) c.if-bytes-lt-HEAD.false (c.has_head.ensures.head c.if-not-has_head.false)
+    (omega (arith, are.1, c.precincts-test.false)) c.precincts.invariant.lines c.precincts.invariant.read
