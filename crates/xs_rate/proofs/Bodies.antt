@@ -10,7 +10,9 @@ use Rattle.xs_layout.specs.declared.Format.{Format}
 use Rattle.xs_layout.specs.declared.Format.TheVariants.{Mono, C422, C444}
 use Rattle.xs_layout.specs.Geometry.{components_of, groups_of, PacketPlace, packet_places_of}
 use Rattle.xs_layout.specs.declared.Candidate.{Candidate}
+use Rattle.xs_layout.specs.declared.Weight.{Weight}
 use Rattle.xs_params.specs.declared.header.Header.{Header}
+use Rattle.xs_params.specs.Accepted.{IsGeometry}
 use Rattle.xs_params.specs.Geometry.{band_width_of, packet_bands, packets_of, has_line}
 use Rattle.xs_spelling.specs.Counts.{Line, flag_bits}
 use Rattle.xs_spelling.specs.Data.{sign_bits}
@@ -21,9 +23,9 @@ use Rattle.xs_grammar.specs.Coded.{packet_line}
 use Rattle.xs_grammar.specs.Sizes.{packet_size}
 use Rattle.xs_rate.specs.Coefficients.{Rows}
 use Rattle.xs_rate.specs.Content.{greatest_of}
-use Rattle.xs_rate.specs.Chosen.{content_at, candidates, coarsest, fits_at, fields_fit_at, size_at, chosen_candidate}
+use Rattle.xs_rate.specs.Chosen.{content_at, candidates, coarsest, fits_at, fields_fit_at, size_at, is_over, chosen_candidate}
 use Rattle.xs_rate.specs.Choice.{BodiesFit, ChosenFits}
-use Rattle.xs_rate.specs.Laws.{HasCountsInRange}
+use Rattle.xs_rate.specs.Laws.{AreSmall, HasCountsInRange}
 use Rattle.xs_rate.proofs.AllCut.{all_cut_fits}
 use Rattle.xs_rate.proofs.Coarsest.{coarsest_cuts_all}
 use Rattle.xs_rate.proofs.Digits.{digits-most}
@@ -101,14 +103,19 @@ some_bands Mono n = omega arith
 some_bands C422 n = omega arith
 some_bands C444 n = omega arith
 
-pub chosen_fits : ChosenFits
-chosen_fits h rows share slice geometry short gains small within =
-    (and_parts (nat_le (size_at h rows slice chosen) share) (fields_fit_at h rows slice chosen) (found_passes (fits_at h rows share slice) (candidates h) (coarsest h) last)).1
+-- the chosen candidate passes the test
+pub chosen_passes : (h : Header) (rows : Rows) (share slice : ℕ) → IsGeometry h → h.long_heads ≡ false → AllByRecursion (λ (w : Weight). w.gain ≤ 15) h.weights → AreSmall rows
+    → is_over h rows share slice ≡ false → fits_at h rows share slice (chosen_candidate h rows share slice) ≡ true
+chosen_passes h rows share slice geometry short gains small within = found_passes (fits_at h rows share slice) (candidates h) (coarsest h) last
   where
-    chosen : Candidate
-    chosen = chosen_candidate h rows share slice
-
     last : fits_at h rows share slice (coarsest h) ≡ true
     last = and_from (nat_le (size_at h rows slice (coarsest h)) share) (fields_fit_at h rows slice (coarsest h)) (le-leb _ _ (ltb-false share (size_at h rows slice (coarsest h)) within))
         (all_cut_fits h (content_at h rows (coarsest h)) _ slice short (omega (arith, geometry.nly)) (narrow_packets h geometry.shape.width.1 geometry.nlx.1 (omega (arith, geometry.nly)))
         (coarsest_cuts_all h rows (some_bands h.shape.format (2 * h.nly + h.nlx)) gains small))
+
+pub chosen_fits : ChosenFits
+chosen_fits h rows share slice geometry short gains small within =
+    (and_parts (nat_le (size_at h rows slice chosen) share) (fields_fit_at h rows slice chosen) (chosen_passes h rows share slice geometry short gains small within)).1
+  where
+    chosen : Candidate
+    chosen = chosen_candidate h rows share slice

@@ -1,8 +1,8 @@
 -- Encodings are in the grammar.
-use Rattle.std.proofs.Common.{◌≡◌, ℕ, ◌+◌, ◌-◌, ◌*◌, ◌/◌, ◌^◌, ◌<◌, ◌≤◌, max, ℤ, pos, List, [], ◌∷◌, map, length, get_or, refl, sym, ap, subst, ◌∙◌, arith, inl, inr}
-use Rattle.std.specs.Prelude.{Bool, true, false, nat_lt, nat_le, if◌then◌else◌, unsigned_abs, unwrap_or, find, Some, None, Ok}
+use Rattle.std.proofs.Common.{◌≡◌, ℕ, ◌+◌, ◌-◌, ◌*◌, ◌/◌, ◌^◌, ◌<◌, ◌≤◌, max, ℤ, pos, List, [], map, length, get_or, refl, sym, ap, subst, ◌∙◌, arith, inl, inr}
+use Rattle.std.specs.Prelude.{Bool, true, false, IsTrue, nat_lt, nat_le, if◌then◌else◌, unsigned_abs, Ok}
 use Rattle.std.specs.List.{flat_map, sum_by, concat, AllByRecursion}
-use Rattle.std.proofs.lemmas.Bool.{and_parts, and_from, ltb-true, leb-true, le-leb}
+use Rattle.std.proofs.lemmas.Bool.{and_parts, ltb-true, leb-true}
 use Rattle.std.proofs.lemmas.Nat.{pow_pos}
 use Rattle.std.proofs.lemmas.List.Concat.{length-flat_map, concat_is}
 use Rattle.std.proofs.lemmas.List.Folds.{flat_map-map}
@@ -24,26 +24,29 @@ use Rattle.xs_params.specs.Stream.{Stream, stream_bytes}
 use Rattle.xs_signal.specs.Quantiser.{quantised, sent, with_sign_of}
 use Rattle.xs_signal.proofs.Laws.{quantised_fits}
 use Rattle.xs_signal.proofs.Magnitudes.{size_signed}
-use Rattle.xs_params.specs.Geometry.{bands_of, precincts_of, slice_count}
+use Rattle.xs_params.specs.Geometry.{bands_of, slice_count}
 use Rattle.xs_grammar.specs.Precinct.{Content, weight_of}
 use Rattle.xs_grammar.specs.Slice.{IsSlice}
 use Rattle.xs_params.proofs.Accepted.{header_accepted}
 use Rattle.xs_grammar.specs.Codestream.{IsCodestream}
-use Rattle.xs_grammar.specs.Coded.{no_filler, header_bytes, HasRoom, IsWritableLine}
+use Rattle.xs_grammar.specs.Coded.{header_bytes, slice_bytes, slice_fits, HasRoom, IsWritableLine}
 use Rattle.xs_grammar.proofs.Coded.{written_slice, writable_everywhere}
 use Rattle.xs_grammar.proofs.CodedStream.{written_header}
 use Rattle.xs_grammar.proofs.Local.{slice_is_local}
-use Rattle.std.proofs.lemmas.List.Sums.{sum_by-cons}
-use Rattle.xs_grammar.proofs.Sizes.{size_of_slice}
 use Rattle.xs_rate.specs.Coefficients.{Rows, rows_of_picture}
 use Rattle.xs_rate.specs.Content.{planes_of, greatest_of, cut_of, content_of}
-use Rattle.xs_rate.specs.Encoding.{candidates, mode_of, with_length, content_at, slice_at, slices_at, size_at, fields_fit_at, fits_at, coarsest, chosen_candidate, encoding_of_rows, encoding_of}
-use Rattle.xs_rate.specs.Laws.{AreSmall, HasCountsInRange}
+use Rattle.xs_rate.specs.Chosen.{candidates, mode_of, content_at, size_at, fields_fit_at, fits_at, coarsest, is_over, chosen_candidate}
+use Rattle.xs_rate.specs.Choice.{filler_of, filled_slice_at}
+use Rattle.xs_rate.specs.Encoding.{with_length, slices_at, encoding_of_rows, encoding_of}
+use Rattle.xs_rate.specs.Laws.{AreSmall}
 use Rattle.xs_rate.specs.Encoded.{chosen_stream, NoneOver, chosen_content, stated_header, IsEncoding, EncodedInGrammar}
 use Rattle.xs_rate.proofs.Digits.{digits-most}
 use Rattle.xs_rate.proofs.Planes.{planes-room}
 use Rattle.xs_rate.proofs.Headers.{components-few, few-bands, header-size}
-use Rattle.xs_rate.proofs.Fields.{slices_fit}
+use Rattle.xs_rate.proofs.Bodies.{chosen_passes}
+use Rattle.xs_rate.proofs.Fewest.{fewest_is_first}
+use Rattle.xs_rate.proofs.Filled.{filled_size, filled_fits}
+use Rattle.xs_rate.proofs.Listed.{HasByte, all_bytes, found_of, at_of}
 use Rattle.xs_rate.proofs.Rows.{small_rows}
 use Rattle.xs_layout.specs.Geometry.{components_of}
 use Rattle.xs_rate.proofs.Fits.{lengths-most, joined-stream, length-stream}
@@ -71,36 +74,15 @@ line-writable h rows candidate small band line = record {
 }
 
 mode-few : (h : Header) (content : Content) (precinct band : ℕ) → mode_of h content precinct band < 4
-mode-few h content precinct band = omega arith
-
--- each count is in range and not below the truncation
-pub counts_in_range : (h : Header) (rows : Rows) (candidate : ℕ → Candidate) → HasCountsInRange h (content_of h rows candidate)
-counts_in_range h rows candidate = record {
-  most = λ band line group. omega (arith, digits-most (greatest_of (rows band line) group));
-  cut = λ band line group. omega arith;
-}
-
--- all lengths fit, at every candidate
-pub every-fits : (s : Settings) (rows : Rows) (slice : ℕ) (candidate : Candidate) → AreInRange s → fields_fit_at (header_of s) rows slice candidate ≡ true
-every-fits s rows slice candidate range =
-    let h = header_of s in
-    slices_fit h (content_at h rows candidate) (mode_of h (content_at h rows candidate)) slice refl range.nlx.1 (omega (arith, range.nly)) (omega (arith, range.nly)) range.together
-    (counts_in_range h rows (λ _. candidate))
+mode-few h content precinct band = (fewest_is_first h content precinct band).is_mode
 
 -- Slices at a candidate
 
-zeros : (precincts : List ℕ) → sum_by no_filler precincts ≡ 0
-zeros [] = refl
-zeros (x ∷ xs) = omega (arith, sum_by-cons no_filler x xs, zeros xs)
-
-pub size_is : (h : Header) (rows : Rows) (slice : ℕ) (candidate : Candidate) → length (slice_at h rows slice candidate) ≡ size_at h rows slice candidate
-size_is h rows slice candidate =
-    omega (arith, size_of_slice h (content_at h rows candidate) (mode_of h (content_at h rows candidate)) no_filler slice, zeros (precincts_of h slice))
-
-pub slice-spelled : (h : Header) (rows : Rows) (slice : ℕ) (candidate : Candidate) → h.run_mode ≡ 0 → slice < 2 ^ 16 → (candidate.q < 2 ^ 8) × (candidate.r < 2 ^ 8) → AreSmall rows
-    → fields_fit_at h rows slice candidate ≡ true → IsSlice h (content_at h rows candidate) slice (slice_at h rows slice candidate)
-slice-spelled h rows slice candidate plain index room small fits =
-    written_slice h (content_at h rows candidate) (mode_of h (content_at h rows candidate)) no_filler slice plain index
+pub slice-spelled : (h : Header) (rows : Rows) (filler : ℕ → ℕ) (slice : ℕ) (candidate : Candidate) → h.run_mode ≡ 0 → slice < 2 ^ 16 → HasByte candidate → AreSmall rows
+    → slice_fits h (content_at h rows candidate) (mode_of h (content_at h rows candidate)) filler slice ≡ true
+    → IsSlice h (content_at h rows candidate) slice (slice_bytes h (content_at h rows candidate) (mode_of h (content_at h rows candidate)) filler slice)
+slice-spelled h rows filler slice candidate plain index room small fits =
+    written_slice h (content_at h rows candidate) (mode_of h (content_at h rows candidate)) filler slice plain index
     (writable_everywhere h (content_at h rows candidate) (mode_of h (content_at h rows candidate)) slice (λ precinct. room) (mode-few h (content_at h rows candidate)) (line-writable h rows (λ _. candidate) small)) fits
 
 -- a slice speaks of its own candidate alone
@@ -116,27 +98,18 @@ slice-local h rows chosen slice bytes some below p =
 
 -- The choice of the candidate
 
-found : {A : Type 0} (test : A → Bool) (xs : List A) (last : A) → test last ≡ true → test (unwrap_or (find test xs) last) ≡ true
-found test [] last h = h
-found {A} test (x ∷ xs) last h = cases (test x) refl (found test xs last h)
-  where
-    cases : (t : Bool) → test x ≡ t → test (unwrap_or (find test xs) last) ≡ true → test (unwrap_or (if t then Some x else find test xs) last) ≡ true
-    cases true is rest = is
-    cases false is rest = rest
+-- the chosen one has room in a precinct's header
+chosen-room : (h : Header) (rows : Rows) (share slice : ℕ) → bands_of h ≤ 30 → AllByRecursion (λ (w : Weight). w.gain ≤ 15) h.weights → HasByte (chosen_candidate h rows share slice)
+chosen-room h rows share slice few gains =
+    let all = all_bytes (bands_of h) h.weights few gains in
+    found_of HasByte (fits_at h rows share slice) (candidates h) (coarsest h) all (at_of HasByte (candidates h) (length (candidates h) - 1) finest all (omega arith, omega arith))
 
-pub chosen-fits : (h : Header) (rows : Rows) (share slice : ℕ) → size_at h rows slice (coarsest h) ≤ share → fields_fit_at h rows slice (coarsest h) ≡ true
-    → fits_at h rows share slice (chosen_candidate h rows share slice) ≡ true
-chosen-fits h rows share slice within fits =
-    found (fits_at h rows share slice) (candidates h) (coarsest h)
-    (and_from (nat_le (size_at h rows slice (coarsest h)) share) (fields_fit_at h rows slice (coarsest h)) (le-leb (size_at h rows slice (coarsest h)) share within) fits)
-
--- the one candidate
-pub chosen-finest : (h : Header) (rows : Rows) (share slice : ℕ) → chosen_candidate h rows share slice ≡ finest
-chosen-finest h rows share slice = cases (fits_at h rows share slice finest)
+within-share : (h : Header) (rows : Rows) (share slice : ℕ) → size_at h rows slice (coarsest h) ≤ share → is_over h rows share slice ≡ false
+within-share h rows share slice within = cases (is_over h rows share slice) refl
   where
-    cases : (t : Bool) → unwrap_or (if t then Some finest else None) finest ≡ finest
-    cases true = refl
-    cases false = refl
+    cases : (over : Bool) → is_over h rows share slice ≡ over → over ≡ false
+    cases true e = let more = ltb-true share (size_at h rows slice (coarsest h)) e in absurd (omega (arith, more, within))
+    cases false e = refl
 
 -- The codestream
 
@@ -163,14 +136,15 @@ has_room s range lcod small = record {
     below : (n bands : ℕ) → n < bands → bands ≤ 30 → n < 2 ^ 8
     below n bands p q = omega (arith, p, q)
 
-built_encoding : (s : Settings) (rows : Rows) → AreInRange s → AreSmall rows → NoneOver (header_of s) rows s.share
-    → IsEncoding (header_of s) rows s.share (chosen_stream (header_of s) rows s.share)
-built_encoding s rows range small within = record {
+chosen_encoding : (s : Settings) (rows : Rows) → AreInRange s → AreSmall rows → NoneOver (header_of s) rows s.share
+    → IsEncoding (header_of s) rows s.share s.fill (chosen_stream (header_of s) rows s.share s.fill)
+chosen_encoding s rows range small within = record {
   whole = subst (λ n. IsCodestream (with_length (header_of s) n) content (stream_bytes stream)) (sym total) whole;
   count = length-map-range_with_len slice_of 0 count;
   each = λ slice inside. record {
     spelled = subst (IsSlice (stated_header h stream) content slice) (sym (at slice inside)) (spelled (length (stream_bytes stream)) slice inside);
-    within = subst (λ l. length l ≤ s.share) (sym (at slice inside)) (short slice inside);
+    within = subst (λ l. length l ≤ s.share) (sym (at slice inside)) (sized slice inside).0;
+    filled = λ fill. subst (λ l. length l ≡ s.share) (sym (at slice inside)) ((sized slice inside).1 fill);
   };
 }
   where
@@ -183,6 +157,9 @@ built_encoding s rows range small within = record {
     few : slice_count (header_of s) ≤ 2047
     few = range.slices
 
+    gains : AllByRecursion (λ (w : Weight). w.gain ≤ 15) (header_of s).weights
+    gains = recursion_from_All (λ (w : Weight). w.gain ≤ 15) (header_of s).weights (header_weights s range).gains
+
     chosen : ℕ → Candidate
     chosen = chosen_candidate (header_of s) rows s.share
 
@@ -190,53 +167,59 @@ built_encoding s rows range small within = record {
     content = chosen_content (header_of s) rows s.share
 
     slice_of : ℕ → List ℕ
-    slice_of slice = slice_at h rows slice (chosen slice)
+    slice_of slice = filled_slice_at h rows s.share s.fill slice (chosen slice)
+
+    slices : List (List ℕ)
+    slices = slices_at h rows s.share s.fill chosen
 
     stream : Stream
-    stream = chosen_stream h rows s.share
+    stream = chosen_stream h rows s.share s.fill
 
     size : ℕ
-    size = length (header_bytes h) + sum_by length (slices_at h rows chosen) + 2
-
-    fits : (slice : ℕ) → slice < count → fits_at h rows s.share slice (chosen slice) ≡ true
-    fits slice inside = chosen-fits h rows s.share slice (within slice inside) (every-fits s rows slice (coarsest h) range)
+    size = length (header_bytes h) + sum_by length slices + 2
 
     parts : (slice : ℕ) → slice < count → (nat_le (size_at h rows slice (chosen slice)) s.share ≡ true) × (fields_fit_at h rows slice (chosen slice) ≡ true)
-    parts slice inside = and_parts (nat_le (size_at h rows slice (chosen slice)) s.share) (fields_fit_at h rows slice (chosen slice)) (fits slice inside)
+    parts slice inside = and_parts (nat_le (size_at h rows slice (chosen slice)) s.share) (fields_fit_at h rows slice (chosen slice))
+        (chosen_passes h rows s.share slice (header_accepted s 0 range).geometry refl gains small (within-share h rows s.share slice (within slice inside)))
 
-    short : (slice : ℕ) → slice < count → length (slice_of slice) ≤ s.share
-    short slice inside =
-        let most = leb-true (size_at h rows slice (chosen slice)) s.share (parts slice inside).0 in
-        subst (λ n. n ≤ s.share) (sym (size_is h rows slice (chosen slice))) most
+    sized : (slice : ℕ) → slice < count → (length (slice_of slice) ≤ s.share) × (IsTrue s.fill → length (slice_of slice) ≡ s.share)
+    sized slice inside = filled_size h rows s.share slice (chosen slice) s.fill range.hsl.0 inside (leb-true (size_at h rows slice (chosen slice)) s.share (parts slice inside).0)
 
-    room : (slice : ℕ) → ((chosen slice).q < 2 ^ 8) × ((chosen slice).r < 2 ^ 8)
-    room slice = subst (λ (c : Candidate). (c.q < 2 ^ 8) × (c.r < 2 ^ 8)) (sym (chosen-finest h rows s.share slice)) (omega arith, omega arith)
+    fits : (slice : ℕ) → slice < count
+        → slice_fits h (content_at h rows (chosen slice)) (mode_of h (content_at h rows (chosen slice))) (filler_of h rows s.share s.fill slice (chosen slice)) slice ≡ true
+    fits slice inside =
+        filled_fits h (content_at h rows (chosen slice)) (mode_of h (content_at h rows (chosen slice))) (filler_of h rows s.share s.fill slice (chosen slice)) slice (parts slice inside).1
+        (short (length (slice_of slice)) (sized slice inside).0)
+      where
+        short : (n : ℕ) → n ≤ s.share → n < 2 ^ 24
+        short n most = omega (arith, most, range.share.1, range.chunk.1)
 
     spelled : (lcod slice : ℕ) → slice < count → IsSlice (with_length (header_of s) lcod) content slice (slice_of slice)
     spelled lcod slice inside =
         slice-local (with_length (header_of s) lcod) rows chosen slice (slice_of slice) range.hsl.0 (omega (arith, range.nly))
-        (slice-spelled (with_length (header_of s) lcod) rows slice (chosen slice) refl (omega (arith, inside, few)) (room slice) small (parts slice inside).1)
+        (slice-spelled (with_length (header_of s) lcod) rows (filler_of h rows s.share s.fill slice (chosen slice)) slice (chosen slice) refl (omega (arith, inside, few))
+        (chosen-room h rows s.share slice (few-bands s range) gains) small (fits slice inside))
 
-    at : (slice : ℕ) → slice < count → get_or (slices_at h rows chosen) slice [] ≡ slice_of slice
+    at : (slice : ℕ) → slice < count → get_or slices slice [] ≡ slice_of slice
     at slice inside = get_or-map-range_with_len slice_of 0 count slice slice [] inside (omega arith)
 
-    all_short : AllByRecursion (λ slice. length slice ≤ s.share) (slices_at h rows chosen)
+    all_short : AllByRecursion (λ slice. length slice ≤ s.share) slices
     all_short =
-        all-of_map (λ slice. length slice ≤ s.share) slice_of (upto count) (range-all (λ slice. length (slice_of slice) ≤ s.share) 0 count (λ slice low inside. short slice (omega (arith, inside))))
+        all-of_map (λ slice. length slice ≤ s.share) slice_of (upto count) (range-all (λ slice. length (slice_of slice) ≤ s.share) 0 count (λ slice low inside. (sized slice (omega (arith, inside))).0))
 
-    sum : length (concat (slices_at h rows chosen)) ≡ sum_by length (slices_at h rows chosen)
-    sum = ap length (concat_is (slices_at h rows chosen)) ∙ length-flat_map (λ l. l) (slices_at h rows chosen)
+    sum : length (concat slices) ≡ sum_by length slices
+    sum = ap length (concat_is slices) ∙ length-flat_map (λ l. l) slices
 
     total : length (stream_bytes stream) ≡ size
     total =
         length-stream stream
-        ∙ ap (λ n. n + length (concat (slices_at h rows chosen)) + 2) (header-size s range size ∙ sym (header-size s range 0))
+        ∙ ap (λ n. n + length (concat slices) + 2) (header-size s range size ∙ sym (header-size s range 0))
         ∙ ap (λ n. length (header_bytes h) + n + 2) sum
 
     small_size : size < 2 ^ 32
     small_size =
-        bound (length (header_bytes h)) (length (concat (slices_at h rows chosen))) (sum_by length (slices_at h rows chosen)) (length (slices_at h rows chosen) * s.share)
-        (header-size s range 0) (components-few s.shape.format) (few-bands s range) sum (lengths-most s.share (slices_at h rows chosen) all_short)
+        bound (length (header_bytes h)) (length (concat slices)) (sum_by length slices) (length slices * s.share)
+        (header-size s range 0) (components-few s.shape.format) (few-bands s range) sum (lengths-most s.share slices all_short)
         (ap (λ n. n * s.share) (length-map-range_with_len slice_of 0 count)) range.stream
       where
         bound : (front pieces sizes whole : ℕ) → front ≡ 42 + 2 * components_of s.shape.format + 2 * bands_of (header_of s) → components_of s.shape.format ≤ 3 → bands_of (header_of s) ≤ 30 → pieces ≡ sizes → pieces ≤ whole
@@ -246,7 +229,7 @@ built_encoding s rows range small within = record {
     whole : IsCodestream (with_length (header_of s) size) content (stream_bytes stream)
     whole = record {
       header = header_bytes (with_length (header_of s) size);
-      slices = concat (slices_at h rows chosen);
+      slices = concat slices;
       joined = joined-stream stream;
       headed = written_header (with_length (header_of s) size) (header_accepted s size range) (has_room s range size small_size);
       spelled = subst (SpellsEach (IsSlice (with_length (header_of s) size) content) (upto count)) (sym (concat_map slice_of (upto count)))
@@ -255,13 +238,13 @@ built_encoding s rows range small within = record {
       stated = inr (sym total);
     }
 
-rows_in_grammar : (s : Settings) (rows : Rows) (stream : Stream) → AreInRange s → AreSmall rows → encoding_of_rows (header_of s) rows s.share ≡ Ok stream
-    → IsEncoding (header_of s) rows s.share stream
-rows_in_grammar s rows stream range small e = elim (cases_over (header_of s) rows s.share) [
+rows_in_grammar : (s : Settings) (rows : Rows) (stream : Stream) → AreInRange s → AreSmall rows → encoding_of_rows (header_of s) rows s.share s.fill ≡ Ok stream
+    → IsEncoding (header_of s) rows s.share s.fill stream
+rows_in_grammar s rows stream range small e = elim (cases_over (header_of s) rows s.share s.fill) [
   | inl none ↦
-      subst (IsEncoding (header_of s) rows s.share) (same_stream (encoding_of_rows (header_of s) rows s.share) (chosen_stream (header_of s) rows s.share) stream none.1 e)
-      (built_encoding s rows range small none.0)
-  | inr some ↦ absurd (no_both (encoding_of_rows (header_of s) rows s.share) stream some.0 e some.2)
+      subst (IsEncoding (header_of s) rows s.share s.fill) (same_stream (encoding_of_rows (header_of s) rows s.share s.fill) (chosen_stream (header_of s) rows s.share s.fill) stream none.1 e)
+      (chosen_encoding s rows range small none.0)
+  | inr some ↦ absurd (no_both (encoding_of_rows (header_of s) rows s.share s.fill) stream some.0 e some.2)
 ]
 
 pub encoded_in_grammar : EncodedInGrammar

@@ -81,7 +81,7 @@ by_tests bits false false false true a b c d = record { is_mode = omega arith; l
     before (suc (suc zero)) less = more_than bits 3 2 c (last_least bits a b c)
     before (suc (suc (suc d))) less = absurd (omega arith)
 
-first_fewest : (bits : ℕ → ℕ) → IsFirstFewest bits (fewest bits)
+pub first_fewest : (bits : ℕ → ℕ) → IsFirstFewest bits (fewest bits)
 first_fewest bits = by_tests bits (is_least bits 0) (is_least bits 1) (is_least bits 2) (is_least bits 3) refl refl refl refl
 
 pub fewest_is_first : FewestIsFirst

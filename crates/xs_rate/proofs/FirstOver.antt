@@ -10,7 +10,8 @@ use Rattle.xs_params.specs.Stream.{Stream}
 use Rattle.xs_faults.specs.declared.Budget.{Budget}
 use Rattle.xs_params.specs.Geometry.{slice_count}
 use Rattle.xs_rate.specs.Coefficients.{Rows, rows_of_picture}
-use Rattle.xs_rate.specs.Encoding.{coarsest, size_at, is_over, encoding_of_rows, encoding_of}
+use Rattle.xs_rate.specs.Chosen.{coarsest, size_at, is_over}
+use Rattle.xs_rate.specs.Encoding.{encoding_of_rows, encoding_of}
 use Rattle.xs_rate.specs.Encoded.{chosen_stream, NoneOver, IsFirstOver, FirstOver}
 
 -- the answers of a test along a range
@@ -72,10 +73,10 @@ abbrev pub budget_of : Header → Rows → ℕ → ℕ → Budget
 budget_of h rows share slice = record { slice = slice; size = size_at h rows slice (coarsest h); share = share }
 
 -- either no slice is over its share, and there is an encoding, or a first one is
-pub cases_over : (h : Header) (rows : Rows) (share : ℕ)
-    → (NoneOver h rows share × (encoding_of_rows h rows share ≡ Ok (chosen_stream h rows share)))
-    ⊎ ((budget : Budget) × IsFirstOver h rows share budget × (encoding_of_rows h rows share ≡ Err budget))
-cases_over h rows share = elim (first_answer (is_over h rows share) (budget_of h rows share) 0 (slice_count h)) [
+pub cases_over : (h : Header) (rows : Rows) (share : ℕ) (fill : Bool)
+    → (NoneOver h rows share × (encoding_of_rows h rows share fill ≡ Ok (chosen_stream h rows share fill)))
+    ⊎ ((budget : Budget) × IsFirstOver h rows share budget × (encoding_of_rows h rows share fill ≡ Err budget))
+cases_over h rows share fill = elim (first_answer (is_over h rows share) (budget_of h rows share) 0 (slice_count h)) [
   | inl none ↦ inl (
     (λ slice inside. ltb-false share (size_at h rows slice (coarsest h)) (none.none slice (omega arith) (omega (arith, inside)))),
     ap given none.gives,
@@ -94,7 +95,7 @@ cases_over h rows share = elim (first_answer (is_over h rows share) (budget_of h
 ]
   where
     given : Option Budget → Result Stream Budget
-    given answer = elim answer [ Some budget ↦ Err budget | None ↦ Ok (chosen_stream h rows share) ]
+    given answer = elim answer [ Some budget ↦ Err budget | None ↦ Ok (chosen_stream h rows share fill) ]
 
 -- there is one first slice
 one_first : (h : Header) (rows : Rows) (share : ℕ) (budget other : Budget) → IsFirstOver h rows share budget → IsFirstOver h rows share other → budget ≡ other
@@ -121,29 +122,29 @@ same_stream x a b p q = let e = sym p ∙ q in cc e
 pub no_both : (x : Result Stream Budget) (a : Stream) (b : Budget) → x ≡ Ok a → x ≡ Err b → ⊥
 no_both x a b p q = let e = sym p ∙ q in absurd (cc e)
 
-rows_refused : (h : Header) (rows : Rows) (share : ℕ) (budget : Budget) → (encoding_of_rows h rows share ≡ Err budget) ↔ IsFirstOver h rows share budget
-rows_refused h rows share budget = elim (cases_over h rows share) [
+rows_refused : (h : Header) (rows : Rows) (share : ℕ) (fill : Bool) (budget : Budget) → (encoding_of_rows h rows share fill ≡ Err budget) ↔ IsFirstOver h rows share budget
+rows_refused h rows share fill budget = elim (cases_over h rows share fill) [
   | inl none ↦ (
-    (λ e. absurd (no_both (encoding_of_rows h rows share) (chosen_stream h rows share) budget none.1 e)),
+    (λ e. absurd (no_both (encoding_of_rows h rows share fill) (chosen_stream h rows share fill) budget none.1 e)),
     (λ p. absurd (omega (arith, p.over, none.0 budget.slice p.there))),
   )
   | inr some ↦ (
-    (λ e. subst (IsFirstOver h rows share) (same_budget (encoding_of_rows h rows share) some.0 budget some.2 e) some.1),
+    (λ e. subst (IsFirstOver h rows share) (same_budget (encoding_of_rows h rows share fill) some.0 budget some.2 e) some.1),
     (λ p. some.2 ∙ ap Err (one_first h rows share some.0 budget some.1 p)),
   )
 ]
 
-rows_encoded : (h : Header) (rows : Rows) (share : ℕ) → ((stream : Stream) × (encoding_of_rows h rows share ≡ Ok stream)) ↔ NoneOver h rows share
-rows_encoded h rows share = elim (cases_over h rows share) [
-  | inl none ↦ ((λ e. none.0), (λ p. (chosen_stream h rows share, none.1)))
+rows_encoded : (h : Header) (rows : Rows) (share : ℕ) (fill : Bool) → ((stream : Stream) × (encoding_of_rows h rows share fill ≡ Ok stream)) ↔ NoneOver h rows share
+rows_encoded h rows share fill = elim (cases_over h rows share fill) [
+  | inl none ↦ ((λ e. none.0), (λ p. (chosen_stream h rows share fill, none.1)))
   | inr some ↦ (
-    (λ e. absurd (no_both (encoding_of_rows h rows share) e.0 some.0 e.1 some.2)),
+    (λ e. absurd (no_both (encoding_of_rows h rows share fill) e.0 some.0 e.1 some.2)),
     (λ p. absurd (omega (arith, some.1.over, p some.0.slice some.1.there))),
   )
 ]
 
-rows_given : (h : Header) (rows : Rows) (share : ℕ) → NoneOver h rows share → encoding_of_rows h rows share ≡ Ok (chosen_stream h rows share)
-rows_given h rows share p = elim (cases_over h rows share) [
+rows_given : (h : Header) (rows : Rows) (share : ℕ) (fill : Bool) → NoneOver h rows share → encoding_of_rows h rows share fill ≡ Ok (chosen_stream h rows share fill)
+rows_given h rows share fill p = elim (cases_over h rows share fill) [
   | inl none ↦ none.1
   | inr some ↦ absurd (omega (arith, some.1.over, p some.0.slice some.1.there))
 ]
@@ -151,7 +152,7 @@ rows_given h rows share p = elim (cases_over h rows share) [
 pub first_over_law : FirstOver
 unfolding encoding_of
 first_over_law = record {
-  refused = λ s picture budget. rows_refused (header_of s) (rows_of_picture (header_of s) picture) s.share budget;
-  encoded = λ s picture. rows_encoded (header_of s) (rows_of_picture (header_of s) picture) s.share;
-  given = λ s picture. rows_given (header_of s) (rows_of_picture (header_of s) picture) s.share;
+  refused = λ s picture budget. rows_refused (header_of s) (rows_of_picture (header_of s) picture) s.share s.fill budget;
+  encoded = λ s picture. rows_encoded (header_of s) (rows_of_picture (header_of s) picture) s.share s.fill;
+  given = λ s picture. rows_given (header_of s) (rows_of_picture (header_of s) picture) s.share s.fill;
 }

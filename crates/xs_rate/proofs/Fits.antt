@@ -10,7 +10,7 @@ use Rattle.xs_params.specs.Markers.{eoc}
 use Rattle.xs_params.specs.Geometry.{bands_of, slice_count}
 use Rattle.xs_grammar.specs.Coded.{header_bytes}
 use Rattle.xs_rate.specs.Encoding.{stream_of}
-use Rattle.xs_rate.specs.Laws.{LengthFits}
+use Rattle.xs_rate.specs.Encoded.{LengthFits}
 use Rattle.xs_rate.proofs.Headers.{components-few, few-bands, header-size}
 
 pub lengths-most : (share : ℕ) (slices : List (List ℕ)) → AllByRecursion (λ slice. length slice ≤ share) slices → length (concat slices) ≤ length slices * share

@@ -1,6 +1,5 @@
 pub mod Digits
 pub mod Planes
-pub mod Finest
 pub mod Rows
 pub mod Narrow
 pub mod Widths
@@ -9,14 +8,14 @@ pub mod Packets
 pub mod Fields
 pub mod AllCut
 pub mod Fits
-pub mod FirstOver
-pub mod Encoded
 pub mod Fewest
 pub mod Filled
+pub mod FirstOver
 pub mod Alike
 pub mod Steps
 pub mod Unsigned
 pub mod Coarsest
 pub mod Bodies
-pub mod FinestSlices
+pub mod Listed
+pub mod Encoded
 mod Examples

@@ -10,7 +10,6 @@ use Rattle.xs_params.specs.declared.header.Header.{Header}
 use Rattle.xs_layout.specs.Geometry.{components_of, component_width_of, low_size, side_size, ll, band_types, PacketPlace, packet_places_of}
 use Rattle.xs_params.specs.Geometry.{packets_of, has_line}
 use Rattle.xs_rate.proofs.Narrow.{all-flat, all-kept, wide-sum, side-most, low-most, groups-most, type_groups, packet_groups, all-narrow}
-use Rattle.xs_params.specs.Picture.{columns_of_all}
 use Rattle.xs_rate.specs.Laws.{HasNarrowPackets, PacketsAreNarrow}
 
 -- the code groups of a type in a component of so many columns, and those of a band of three components
@@ -101,7 +100,7 @@ all-formats Mono width nlx nly precinct columns most few below = all-narrow widt
 all-formats C422 width nlx nly precinct columns most few below = three-narrow (component_width_of C422 width) nlx nly precinct columns (omega (arith, most)) few below
 all-formats C444 width nlx nly precinct columns most few below = three-narrow (component_width_of C444 width) nlx nly precinct columns (omega (arith, most)) few below
 
-packet-groups : (h : Header) (columns : ℕ) → columns_of_all h.shape ≤ columns → h.nlx ≤ 5 → h.nly ≤ h.nlx → (precinct : ℕ) (place : PacketPlace) → Contains (packets_of h precinct) place
+packet-groups : (h : Header) (columns : ℕ) → columns_with h.shape.format h.shape.width ≤ columns → h.nlx ≤ 5 → h.nly ≤ h.nlx → (precinct : ℕ) (place : PacketPlace) → Contains (packets_of h precinct) place
     → 4 * packet_groups h.shape.format h.shape.width h.nlx h.nly place ≤ columns + 54
 packet-groups h columns most few below precinct place there =
     All-contains Narrow (packets_of h precinct) place (All-from_recursion Narrow (packets_of h precinct) (all-kept Narrow (has_line h) (packet_places_of h.nlx h.nly precinct) places)) there
@@ -111,10 +110,6 @@ packet-groups h columns most few below precinct place there =
 
     places : AllByRecursion Narrow (packet_places_of h.nlx h.nly precinct)
     places = all-formats h.shape.format h.shape.width h.nlx h.nly precinct columns most few below
-
--- few where the components together have few columns
-pub together_narrow : (h : Header) → columns_of_all h.shape ≤ 8192 → h.nlx ≤ 5 → h.nly ≤ h.nlx → HasNarrowPackets 2061 h
-together_narrow h most few below precinct place there = omega (arith, packet-groups h 8192 most few below precinct place there)
 
 all-columns : (format : Format) (width : ℕ) → width ≤ 8192 → columns_with format width ≤ 24576
 all-columns Mono width most = omega (arith, most)

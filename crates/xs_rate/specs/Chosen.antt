@@ -8,7 +8,7 @@ use Rattle.xs_grammar.specs.Precinct.{Content}
 use Rattle.xs_grammar.specs.Coded.{no_filler, slice_bytes, slice_fits}
 use Rattle.xs_grammar.specs.Sizes.{slice_size}
 use Rattle.xs_rate.specs.Coefficients.{Rows}
-pub use Rattle.xs_rate.specs.Encoding.{content_at}
+use Rattle.xs_rate.specs.Content.{content_of}
 use Rattle.xs_rate.specs.Modes.{least_mode}
 
 -- the candidates of a slice, and the modes of its bands
@@ -17,6 +17,10 @@ candidates h = candidates_of (bands_of h) h.weights
 
 abbrev pub mode_of : Header → Content → ℕ → ℕ → ℕ
 mode_of h content precinct band = least_mode h content precinct band
+
+-- the content with one candidate for every slice
+abbrev pub content_at : Header → Rows → Candidate → Content
+content_at h rows candidate = content_of h rows (λ _. candidate)
 
 -- a slice at a candidate, which speaks of its own candidate alone, and its size
 abbrev pub slice_at : Header → Rows → ℕ → Candidate → List ℕ

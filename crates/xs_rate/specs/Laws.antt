@@ -1,19 +1,14 @@
 -- Laws of the encoding.
-use Rattle.std.specs.Prelude.{◌≡◌, ℕ, ◌^◌, ◌<◌, ◌≤◌, true, false, ℤ, pos, unsigned_abs, List, length, All}
+use Rattle.std.specs.Prelude.{◌≡◌, ℕ, ◌^◌, ◌<◌, ◌≤◌, true, false, ℤ, pos, unsigned_abs}
 use Rattle.std.specs.List.{sum_by, Contains}
 use Rattle.xs_layout.specs.Geometry.{PacketPlace, groups_of}
-use Rattle.xs_layout.specs.Limits.{most_across, most_columns, most_down, most_width}
+use Rattle.xs_layout.specs.Limits.{most_across, most_down, most_width}
 use Rattle.xs_params.specs.declared.header.Header.{Header}
-use Rattle.xs_params.specs.Picture.{Picture, columns_of_all}
-use Rattle.xs_params.specs.declared.settings.Settings.{Settings}
-use Rattle.xs_params.specs.Check.{AreInRange}
-use Rattle.xs_params.specs.Headers.{header_of}
-use Rattle.xs_params.specs.Stream.{stream_bytes}
-use Rattle.xs_params.specs.Geometry.{band_width_of, packet_bands, packets_of, slice_count}
+use Rattle.xs_params.specs.Picture.{Picture}
+use Rattle.xs_params.specs.Geometry.{band_width_of, packet_bands, packets_of}
 use Rattle.xs_grammar.specs.Precinct.{Content, line_truncation}
 use Rattle.xs_grammar.specs.Coded.{no_filler, slice_fits}
 use Rattle.xs_rate.specs.Coefficients.{Rows, rows_of_picture}
-use Rattle.xs_rate.specs.Encoding.{stream_of}
 
 -- Rows
 
@@ -47,23 +42,13 @@ pub record HasCountsInRange (h : Header) (content : Content) : Type 0 where
   pub most : (band line group : ℕ) → content.count band line group ≤ 15
   pub cut : (band line group : ℕ) → line_truncation h content band line ≤ content.count band line group
 
--- where the components together have few columns each length has room in its field, whatever the truncations, numbers, modes, quantiser and signs
-abbrev pub SlicesFit : Type 0
-SlicesFit = (h : Header) (content : Content) (mode : ℕ → ℕ → ℕ) (slice : ℕ) → h.long_heads ≡ false → h.nlx ≤ most_across → h.nly ≤ most_down → h.nly ≤ h.nlx → columns_of_all h.shape ≤ most_columns
-    → HasCountsInRange h content → slice_fits h content mode no_filler slice ≡ true
-
 -- every plane is cut off: each truncation is 15, and so is each count, which is in range and not below it; each number is 0
 pub record IsAllCut (h : Header) (content : Content) : Type 0 where
   pub truncations : (band line : ℕ) → line_truncation h content band line ≡ 15
   pub counts : (band line group : ℕ) → content.count band line group ≡ 15
   pub values : (band line column : ℕ) → content.value band line column ≡ pos 0
 
--- then so it is however many columns there are: a code group has at most one bit of counts, and there are no data and no signs
+-- then each length has room in its field, however many columns there are: a code group has at most one bit of counts, and there are no data and no signs
 abbrev pub AllCutFits : Type 0
 AllCutFits = (h : Header) (content : Content) (mode : ℕ → ℕ → ℕ) (slice : ℕ) → h.long_heads ≡ false → h.nly ≤ most_down → HasNarrowPackets 6157 h → IsAllCut h content
     → slice_fits h content mode no_filler slice ≡ true
-
--- and the length of a codestream has room in its field, where each slice is within its share
-abbrev pub LengthFits : Type 0
-LengthFits = (s : Settings) (slices : List (List ℕ)) → AreInRange s → length slices ≡ slice_count (header_of s) → All (λ slice. length slice ≤ s.share) slices
-    → length (stream_bytes (stream_of (header_of s) slices)) < 2 ^ 32

@@ -1,11 +1,8 @@
 pub mod Coefficients
 pub mod Content
 pub mod Modes
-pub mod Built
-pub mod Encoding
 pub mod Chosen
-pub mod Choice
 pub mod Laws
-pub mod Finest
+pub mod Choice
+pub mod Encoding
 pub mod Encoded
-pub mod WrittenOut

@@ -3,16 +3,9 @@
 #![tactic(auto)]
 
 ghost use Rattle.xs_rate.specs.Choice.{BodiesFit, ChooseAlike, ChosenByMagnitudes, ChosenFits, CoarsestCutsAll, OneBandSteps, SlicesFilled};
-ghost use Rattle.xs_rate.specs.Encoded.{EncodedInGrammar, FirstOver};
-ghost use Rattle.xs_rate.specs.Finest.{FinestLine};
-ghost use Rattle.xs_rate.specs.Laws.{AllCutFits, LengthFits, PacketsAreNarrow, SlicesFit, SmallRows};
+ghost use Rattle.xs_rate.specs.Encoded.{EncodedInGrammar, FirstOver, LengthFits};
+ghost use Rattle.xs_rate.specs.Laws.{AllCutFits, PacketsAreNarrow, SmallRows};
 ghost use Rattle.xs_rate.specs.Modes.{FewestIsFirst};
-ghost use Rattle.xs_rate.specs.WrittenOut.{FinestSlices, OneCandidate};
-
-/// A line of small numbers at the finest candidate: each count in ones and a zero, and all signs and planes.
-pub fn finest_line()
-    ensures { FinestLine }
-{}
 
 /// The coefficients of every picture are small.
 pub fn small_rows()
@@ -24,13 +17,7 @@ pub fn narrow_packets()
     ensures { PacketsAreNarrow }
 {}
 
-/// Where the components together have few columns each length in a slice has room in its field, whatever it holds.
-#[tactic(auto, using(crate::proofs::Fields::slices_fit))]
-pub fn slices_fit()
-    ensures { SlicesFit }
-{}
-
-/// Where every plane is cut off so it is however many columns there are.
+/// Where every plane is cut off each length in a slice has room in its field, however many columns there are.
 #[tactic(auto, using(crate::proofs::AllCut::all_cut_fits))]
 pub fn all_cut_fits()
     ensures { AllCutFits }
@@ -48,7 +35,8 @@ pub fn first_over()
     ensures { FirstOver }
 {}
 
-/// What is given for a picture is in the grammar, and each of its slices is within the share.
+/// What is given for a picture is in the grammar, and each of its slices is within the share, or has exactly the share where
+/// slices are filled.
 pub fn encoded_in_grammar()
     ensures { EncodedInGrammar }
 {}
@@ -93,15 +81,4 @@ pub fn chosen_fits()
 /// The packets of a precinct have few bytes, whatever the candidate and the modes.
 pub fn bodies_fit()
     ensures { BodiesFit }
-{}
-
-/// There is one candidate, the finest.
-pub fn one_candidate()
-    ensures { OneCandidate }
-{}
-
-/// The bytes of a slice of a grey picture, packet by packet.
-#[tactic(auto, using(crate::proofs::FinestSlices::finest_slices))]
-pub fn finest_slices()
-    ensures { FinestSlices }
 {}
