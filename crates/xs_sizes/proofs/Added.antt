@@ -1,10 +1,9 @@
 -- The sizes of a line at each truncation, and those of the lines of a band.
-use Rattle.std.proofs.Common.{◌≡◌, ℕ, zero, suc, ℤ, ◌+◌, ◌-◌, ◌*◌, ◌%◌, ◌<◌, ◌≤◌, min, List, [], ◌∷◌, ◌++◌, map, length, sum_by, get_or, refl, sym, ap, subst, ◌∙◌, arith, inl, inr, length-append}
-use Rattle.std.specs.Prelude.{Bool, true, false, max, not, nat_eq, nat_lt, ◌&&◌, if◌then◌else◌, replicate, All}
+use Rattle.std.proofs.Common.{◌≡◌, ℕ, zero, suc, ◌+◌, ◌-◌, ◌*◌, ◌%◌, ◌<◌, ◌≤◌, List, [], ◌++◌, map, length, sum_by, get_or, refl, sym, ap, subst, ◌∙◌, arith, inl, inr, length-append}
+use Rattle.std.specs.Prelude.{Bool, true, false, max, not, nat_eq, ◌&&◌, if◌then◌else◌, replicate}
 use Rattle.std.proofs.lemmas.Bool.{cases_eq, eq-eqb, ne_eqb}
 use Rattle.std.proofs.lemmas.List.{get_or_append_left, get_or-append-add}
 use Rattle.std.proofs.lemmas.List.FromFn.{get_or-map-range_with_len, length-map-range_with_len}
-use Rattle.std.proofs.lemmas.List.Elements.{All-from_recursion}
 use Rattle.std.proofs.lemmas.Nat.{mod-mul-add}
 use Rattle.xs_lists.specs.Spelling.{upto}
 use Rattle.xs_layout.specs.Geometry.{groups_of}
@@ -14,15 +13,15 @@ use Rattle.xs_params.specs.declared.header.Header.{Header}
 use Rattle.xs_params.specs.Rows.{Rows}
 use Rattle.xs_params.specs.Geometry.{band_width_of, bands_of}
 use Rattle.xs_spelling.specs.Counts.{predicts_above, predicted, has_flags}
-use Rattle.xs_spelling.specs.Sizes.{count_size, data_size, signs_size}
+use Rattle.xs_spelling.specs.Sizes.{count_size, signs_size}
 use Rattle.xs_grammar.specs.Precinct.{is_first_line}
 use Rattle.xs_geometry.specs.SliceLines.{BandLines, HasLine, AreLinesOf, lines_at, rows_held, slice_height}
 use Rattle.xs_rate.specs.Content.{planes_of}
-use Rattle.xs_groups.proofs.Planes.{planes_most, all_planes}
+use Rattle.xs_groups.proofs.Planes.{planes_most}
 use Rattle.xs_sizes.specs.Lengths.{plain_line}
 use Rattle.xs_sizes.specs.Cut.{cut_line, sent_line, planes_above, AreCutSizes}
 use Rattle.xs_sizes.specs.Counted.{AreBandSizes, cut_at, no_sizes}
-use Rattle.xs_sizes.specs.LineSizes.{AreLineSizes, AreAdded, cut_of, next_of}
+use Rattle.xs_sizes.specs.LineSizes.{AreLineSizes, AreAdded, cut_sizes_at, next_of}
 use Rattle.xs_sizes.specs.declared.line.CutSizes.{CutSizes}
 use Rattle.xs_sizes.specs.declared.line.LineSizes.{LineSizes}
 use Rattle.xs_sizes.proofs.Same.{SameCoded, count_size_same}
@@ -60,7 +59,7 @@ same_cut h rows band line t mode plain kind under planes groups flags counts pre
 }
 
 counts_are : (h : Header) (rows : Rows) (band line t : ℕ) (signs : Bool) (none above planes : List ℕ) (sizes : LineSizes) → t ≤ 15 → IsCounting h rows band line none above planes
-    → AreLineSizes none above planes (rows band line) signs sizes → (kind : Quant) (mode : ℕ) → mode < 4 → get_or (cut_of sizes t).counts mode 0 ≡ count_size (cut_line h kind rows t mode band line)
+    → AreLineSizes none above planes (rows band line) signs sizes → (kind : Quant) (mode : ℕ) → mode < 4 → get_or (cut_sizes_at sizes t).counts mode 0 ≡ count_size (cut_line h kind rows t mode band line)
 counts_are h rows band line t signs none above planes sizes le known are kind zero few =
     are.plain t le ∙ count_size_same _ _ (same_cut h rows band line t 0 0 kind none planes known.size refl known.own (λ group inside. ap (λ l. get_or l group 0) known.zeros ∙ no_zeros (length planes) group))
 counts_are h rows band line t signs none above planes sizes le known are kind (suc zero) few =
@@ -75,7 +74,7 @@ counts_are h rows band line t signs none above planes sizes le known are kind (s
 
 numbers_are : (h : Header) (rows : Rows) (band line t : ℕ) (signs : Bool) (none above planes : List ℕ) (sizes : LineSizes) → t ≤ 15 → IsCounting h rows band line none above planes
     → AreLineSizes none above planes (rows band line) signs sizes → (apart : Bool)
-    → (if apart then (cut_of sizes t).data_apart else (cut_of sizes t).data_in) ≡ sum_by (number_size apart (planes_of (rows band line)) t) (upto (length planes))
+    → (if apart then (cut_sizes_at sizes t).data_apart else (cut_sizes_at sizes t).data_in) ≡ sum_by (number_size apart (planes_of (rows band line)) t) (upto (length planes))
 numbers_are h rows band line t signs none above planes sizes le known are = cases
   where
     p : ℕ → ℕ
@@ -98,12 +97,12 @@ numbers_are h rows band line t signs none above planes sizes le known are = case
       | inr more ↦ ap (λ (b : Bool). if b then sizes.groups else get_or sizes.plain.all (t + 1) 0) (ne_eqb t 15 more) ∙ at (t + 1) (omega (arith, le, more))
     ]
 
-    cases : (apart : Bool) → (if apart then (cut_of sizes t).data_apart else (cut_of sizes t).data_in) ≡ sum_by (number_size apart p t) (upto (length planes))
+    cases : (apart : Bool) → (if apart then (cut_sizes_at sizes t).data_apart else (cut_sizes_at sizes t).data_in) ≡ sum_by (number_size apart p t) (upto (length planes))
     cases true = omega (arith, at t le, are.groups, apart_sum p t (upto (length planes)), length_upto (length planes))
     cases false = omega (arith, at t le, next t le, are.groups, in_sum p t (upto (length planes)), left_falls p t (upto (length planes)), left_least p t (upto (length planes)), length_upto (length planes))
 
 cut_sizes_are : (h : Header) (rows : Rows) (band line t : ℕ) (signs : Bool) (none above planes : List ℕ) (sizes : LineSizes) → t ≤ 15 → IsCounting h rows band line none above planes
-    → AreLineSizes none above planes (rows band line) signs sizes → AreCutSizes h rows signs t band line (cut_of sizes t)
+    → AreLineSizes none above planes (rows band line) signs sizes → AreCutSizes h rows signs t band line (cut_sizes_at sizes t)
 cut_sizes_are h rows band line t signs none above planes sizes le known are = record {
   counts = counts_are h rows band line t signs none above planes sizes le known are;
   numbers = λ kind mode apart. numbers_are h rows band line t signs none above planes sizes le known are apart ∙ ap (λ n. sum_by (number_size apart (planes_of (rows band line)) t) (upto n)) known.size;
@@ -118,26 +117,26 @@ pub line_added : (h : Header) (rows : Rows) (band first line : ℕ) (signs : Boo
     → ((group : ℕ) → group < length planes → get_or planes group 0 ≡ planes_of (rows band line) group)
     → ((group : ℕ) → group < length planes → get_or above group 0 ≡ planes_above h rows band line group)
     → AreLineSizes none above planes (rows band line) signs sizes → AreBandSizes h rows signs band first line cuts
-    → AreBandSizes h rows signs band first (line + 1) (cuts ++ map (cut_of sizes) (upto 16))
+    → AreBandSizes h rows signs band first (line + 1) (cuts ++ map (cut_sizes_at sizes) (upto 16))
 line_added h rows band first line signs none above planes sizes cuts from groups zeros counts predictions are before = record {
-  count = omega (arith, length-append cuts (map (cut_of sizes) (upto 16)), before.count, length-map-range_with_len (cut_of sizes) 0 16, from);
+  count = omega (arith, length-append cuts (map (cut_sizes_at sizes) (upto 16)), before.count, length-map-range_with_len (cut_sizes_at sizes) 0 16, from);
   sizes = each;
 }
   where
     known : IsCounting h rows band line none above planes
     known = record { size = groups; zeros = zeros; own = counts; under = predictions }
 
-    each : (l t : ℕ) → first ≤ l → l < line + 1 → t ≤ 15 → AreCutSizes h rows signs t band l (cut_at (cuts ++ map (cut_of sizes) (upto 16)) first l t)
+    each : (l t : ℕ) → first ≤ l → l < line + 1 → t ≤ 15 → AreCutSizes h rows signs t band l (cut_at (cuts ++ map (cut_sizes_at sizes) (upto 16)) first l t)
     each l t low high le = elim (cases_eq l line) [
       | inl same ↦
           let place : 16 * (l - first) + t ≡ length cuts + t = omega (arith, same, before.count) in
-          let here : cut_at (cuts ++ map (cut_of sizes) (upto 16)) first l t ≡ cut_of sizes t =
-          ap (λ k. get_or (cuts ++ map (cut_of sizes) (upto 16)) k no_sizes) place ∙ get_or-append-add cuts (map (cut_of sizes) (upto 16)) t no_sizes
-          ∙ get_or-map-range_with_len (cut_of sizes) 0 16 t t no_sizes (omega (arith, le)) (omega arith) in
-          subst (λ s. AreCutSizes h rows signs t band l s) (sym here) (subst (λ k. AreCutSizes h rows signs t band k (cut_of sizes t)) (sym same) (cut_sizes_are h rows band line t signs none above planes sizes le known are))
+          let here : cut_at (cuts ++ map (cut_sizes_at sizes) (upto 16)) first l t ≡ cut_sizes_at sizes t =
+          ap (λ k. get_or (cuts ++ map (cut_sizes_at sizes) (upto 16)) k no_sizes) place ∙ get_or-append-add cuts (map (cut_sizes_at sizes) (upto 16)) t no_sizes
+          ∙ get_or-map-range_with_len (cut_sizes_at sizes) 0 16 t t no_sizes (omega (arith, le)) (omega arith) in
+          subst (λ s. AreCutSizes h rows signs t band l s) (sym here) (subst (λ k. AreCutSizes h rows signs t band k (cut_sizes_at sizes t)) (sym same) (cut_sizes_are h rows band line t signs none above planes sizes le known are))
       | inr other ↦
           let inside : 16 * (l - first) + t < length cuts = omega (arith, other, high, low, le, before.count) in
-          subst (λ s. AreCutSizes h rows signs t band l s) (sym (get_or_append_left cuts (map (cut_of sizes) (upto 16)) no_sizes (16 * (l - first) + t) inside)) (before.sizes l t low (omega (arith, other, high)) le)
+          subst (λ s. AreCutSizes h rows signs t band l s) (sym (get_or_append_left cuts (map (cut_sizes_at sizes) (upto 16)) no_sizes (16 * (l - first) + t) inside)) (before.sizes l t low (omega (arith, other, high)) le)
     ]
 
 -- The first line of a slice

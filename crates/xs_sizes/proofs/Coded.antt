@@ -1,13 +1,13 @@
 -- The bits of a line's counts, group by group.
-use Rattle.std.proofs.Common.{◌≡◌, ℕ, ◌+◌, ◌-◌, ◌*◌, ◌/◌, ◌%◌, ◌<◌, ◌≤◌, List, [], ◌∷◌, ◌++◌, length, sum_by, get_or, refl, sym, ap, subst, ◌∙◌, arith}
-use Rattle.std.specs.Prelude.{Bool, true, false, max, min, nat_eq, nat_le, nat_lt, ◌&&◌, if◌then◌else◌}
+use Rattle.std.proofs.Common.{◌≡◌, ℕ, ◌+◌, ◌-◌, ◌*◌, ◌<◌, ◌≤◌, List, length, sum_by, get_or, refl, sym, ap, ◌∙◌, arith}
+use Rattle.std.specs.Prelude.{Bool, true, false, max, nat_eq, nat_le, nat_lt, ◌&&◌, if◌then◌else◌}
 use Rattle.std.specs.List.{list_all, range_with_len}
 use Rattle.std.proofs.lemmas.Bool.{leb-true}
 use Rattle.xs_lists.specs.Bits.{bit_of}
 use Rattle.xs_spelling.specs.Sizes.{count_size}
-use Rattle.xs_spelling.specs.Written.{ones_of, members_of, written_flag}
+use Rattle.xs_spelling.specs.Written.{members_of, written_flag}
 use Rattle.xs_counts.specs.Known.{residual_size, is_skipped}
-use Rattle.xs_counts.proofs.Members.{counts_from, from_size, from_start}
+use Rattle.xs_counts.proofs.Members.{counts_from, from_size}
 use Rattle.xs_lists.proofs.Ranges.{range_first, sum_first}
 use Rattle.xs_sizes.specs.Lengths.{length_of, plain_line}
 

@@ -4,5 +4,8 @@ pub mod Same
 pub mod Plain
 pub mod Sent
 pub mod Added
-pub mod Fewest
 pub mod Moded
+pub mod FirstBand
+pub mod PacketSizes
+pub mod Measuring
+pub mod Ends

@@ -1,27 +1,27 @@
 -- The mode of a band in a precinct, and the bits of its lines.
-use Rattle.std.proofs.Common.{◌≡◌, ◌≢◌, ℕ, zero, suc, ◌+◌, ◌-◌, ◌*◌, ◌<◌, ◌≤◌, min, List, [], ◌∷◌, length, get_or, refl, sym, ap, subst, ◌∙◌, arith, inl, inr}
-use Rattle.std.specs.Prelude.{Bool, true, false, nat_le, if◌then◌else◌}
-use Rattle.std.specs.List.{range_with_len, Contains}
+use Rattle.std.proofs.Common.{◌≡◌, ℕ, zero, suc, ◌+◌, ◌-◌, ◌*◌, ◌<◌, ◌≤◌, min, List, [], ◌∷◌, length, get_or, sym, ap, subst, ◌∙◌, arith, inl, inr}
+use Rattle.std.specs.Prelude.{Bool, true, nat_le, if◌then◌else◌}
+use Rattle.std.specs.List.{Contains}
 use Rattle.std.proofs.lemmas.Bool.{cases_eq, cases_lt}
 use Rattle.std.proofs.Math.Nat.{mul-le-mul_right, mul_assoc}
 use Rattle.xs_layout.specs.Geometry.{groups_of, significance_groups_of}
 use Rattle.xs_layout.specs.declared.Quant.{Quant}
 use Rattle.xs_params.specs.declared.header.Header.{Header}
 use Rattle.xs_params.specs.Rows.{Rows}
-use Rattle.xs_params.specs.Geometry.{band_width_of, band_height_of, bands_of, lines_of, precinct_lines, precincts_of, precinct_count}
-use Rattle.xs_spelling.specs.Sizes.{count_size, flag_size, signs_size}
+use Rattle.xs_params.specs.Geometry.{band_width_of, bands_of, lines_of, precinct_lines, precincts_of, precinct_count}
+use Rattle.xs_spelling.specs.Sizes.{flag_size, signs_size}
 use Rattle.xs_spelling.specs.Written.{written_flag}
 use Rattle.xs_spelling.proofs.Sized.{lines_sized}
-use Rattle.xs_geometry.specs.SliceLines.{BandLines, HasLine, AreLinesOf, lines_at, rows_held, first_line_of, end_line_of}
+use Rattle.xs_geometry.specs.SliceLines.{BandLines, HasLine, AreLinesOf, lines_at, rows_held}
 use Rattle.xs_geometry.proofs.PlaceFacts.{range_has}
 use Rattle.xs_rate.specs.Modes.{fewest, IsFirstFewest}
-use Rattle.xs_sizes.proofs.Fewest.{first_fewest}
+use Rattle.xs_rate.proofs.Fewest.{first_fewest}
 use Rattle.xs_sizes.specs.Cut.{cut_line, AreCutSizes}
 use Rattle.xs_sizes.specs.Counted.{IsBandCounted, cut_at, no_sizes}
 use Rattle.xs_layout.specs.declared.Quant.TheVariants.{DeadZone, Uniform}
 use Rattle.xs_sizes.specs.Measured.{signs_of}
 use Rattle.xs_sizes.specs.declared.line.CutSizes.{CutSizes}
-use Rattle.xs_sizes.specs.declared.counts.BandCounts.{BandCounts}
+use Rattle.xs_sizes.specs.declared.bands.BandCounts.{BandCounts}
 
 -- a line has flags in the last two modes
 pub flags_are : (h : Header) (kind : Quant) (rows : Rows) (t mode band line : ℕ) → mode < 4 → flag_size (cut_line h kind rows t mode band line) ≡ (if nat_le 2 mode then significance_groups_of (groups_of (band_width_of h band)) else 0)

@@ -1,13 +1,13 @@
 -- The bits of counts that are predicted from nothing, and how those of the numbers follow from them.
-use Rattle.std.proofs.Common.{◌≡◌, ℕ, zero, suc, ℤ, ◌+◌, ◌-◌, ◌*◌, ◌^◌, ◌<◌, ◌≤◌, List, [], ◌∷◌, length, sum_by, get_or, refl, sym, ap, ◌∙◌, arith, inl, inr}
-use Rattle.std.specs.Prelude.{Bool, true, false, max, nat_eq, nat_lt, nat_le, if◌then◌else◌, replicate, All}
+use Rattle.std.proofs.Common.{◌≡◌, ℕ, zero, suc, ℤ, ◌+◌, ◌-◌, ◌*◌, ◌<◌, ◌≤◌, List, [], ◌∷◌, length, sum_by, get_or, refl, sym, ap, ◌∙◌, arith, inl, inr}
+use Rattle.std.specs.Prelude.{Bool, true, false, max, nat_lt, nat_le, if◌then◌else◌, replicate, All}
 use Rattle.std.specs.List.{range_with_len, AllByRecursion}
-use Rattle.std.proofs.lemmas.Bool.{ltb-true, ltb-false, leb-true, leb-false, cases_lt}
-use Rattle.std.proofs.lemmas.List.{length-map, get_or-replicate}
+use Rattle.std.proofs.lemmas.Bool.{ltb-true, ltb-false, leb-true, cases_lt}
+use Rattle.std.proofs.lemmas.List.{length-map}
 use Rattle.std.proofs.lemmas.List.Sums.{sum_by-cons}
 use Rattle.std.proofs.lemmas.List.FromFn.{length-map-range_with_len}
 use Rattle.xs_lists.specs.Spelling.{upto}
-use Rattle.xs_spelling.specs.Sizes.{count_size, data_size}
+use Rattle.xs_spelling.specs.Sizes.{count_size}
 use Rattle.xs_counts.specs.Known.{residual_size}
 use Rattle.xs_counts.proofs.Members.{residuals_sized}
 use Rattle.xs_sizes.specs.Lengths.{length_of, plain_line}

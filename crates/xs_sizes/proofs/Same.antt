@@ -1,11 +1,11 @@
 -- The size of a line's counts hangs on its counts and their predictions alone.
-use Rattle.std.proofs.Common.{◌≡◌, ℕ, zero, suc, ◌+◌, ◌-◌, ◌*◌, ◌/◌, ◌<◌, ◌≤◌, min, List, [], ◌∷◌, ◌++◌, length, refl, sym, ap, ◌∙◌, arith}
-use Rattle.std.specs.Prelude.{Bool, true, false, nat_eq, ◌&&◌, if◌then◌else◌}
+use Rattle.std.proofs.Common.{◌≡◌, ℕ, zero, suc, ◌+◌, ◌-◌, ◌*◌, ◌/◌, ◌<◌, ◌≤◌, min, List, [], ◌++◌, length, refl, ap, ◌∙◌, arith}
+use Rattle.std.specs.Prelude.{Bool, nat_eq, ◌&&◌, if◌then◌else◌}
 use Rattle.std.specs.List.{flat_map, list_all, range_with_len}
 use Rattle.xs_lists.specs.Bits.{bit_of}
 use Rattle.xs_spelling.specs.Counts.{Line, unary, has_flags}
 use Rattle.xs_spelling.specs.Sizes.{count_size}
-use Rattle.xs_spelling.specs.Written.{ones_of, count_bits, members_of, written_flag}
+use Rattle.xs_spelling.specs.Written.{ones_of, count_bits, written_flag}
 
 all_same : (f g : ℕ → Bool) (first n : ℕ) → ((i : ℕ) → first ≤ i → i < first + n → f i ≡ g i) → list_all f (range_with_len first n) ≡ list_all g (range_with_len first n)
 all_same f g first zero same = refl

@@ -1,9 +1,7 @@
 -- The signs of a row, code group by code group.
-use Rattle.std.proofs.Common.{◌≡◌, ℕ, zero, suc, ℤ, ◌+◌, ◌-◌, ◌*◌, ◌/◌, ◌^◌, ◌<◌, ◌≤◌, List, [], ◌∷◌, ◌++◌, map, length, refl, sym, ap, subst, ◌∙◌, arith}
+use Rattle.std.proofs.Common.{◌≡◌, ℕ, ℤ, ◌+◌, ◌*◌, ◌/◌, ◌^◌, ◌<◌, ◌≤◌, List, [], ◌∷◌, map, length, sym, ap, ◌∙◌, arith}
 use Rattle.std.specs.Prelude.{Bool, true, false, nat_lt, cond, max, count_by, if◌then◌else◌, pos, unsigned_abs}
 use Rattle.std.specs.List.{fold, AllByRecursion}
-use Rattle.std.specs.Int.{is_negative}
-use Rattle.xs_lists.specs.Bits.{bit_of}
 use Rattle.xs_layout.specs.declared.Quant.{Quant}
 use Rattle.xs_signal.specs.Quantiser.{quantised, with_sign_of, sent}
 use Rattle.xs_signal.proofs.Magnitudes.{size_signed}

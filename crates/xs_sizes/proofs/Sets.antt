@@ -1,5 +1,5 @@
 -- Entries of a list of which one was set.
-use Rattle.std.proofs.Common.{◌≡◌, ℕ, ◌+◌, ◌<◌, ◌≤◌, List, [], ◌∷◌, ◌++◌, length, get_or, refl, sym, subst, arith, inl, inr}
+use Rattle.std.proofs.Common.{◌≡◌, ℕ, ◌+◌, ◌<◌, ◌≤◌, List, [], ◌∷◌, ◌++◌, length, get_or, refl, sym, ap, subst, ◌∙◌, arith, inl, inr, length-append}
 use Rattle.std.proofs.Math.ListN.{set}
 use Rattle.std.proofs.lemmas.List.{get_or-set_other, get_or_append_left}
 use Rattle.std.proofs.Math.Seq.{get_or-append_seam}
@@ -22,3 +22,9 @@ each_pushed P xs x old new k d below = elim (cases_eq k (length xs)) [
   | inl here ↦ subst (λ i. P i (get_or (xs ++ x ∷ []) i d)) (sym here) (subst (P (length xs)) (sym (get_or-append_seam xs x [] d)) new)
   | inr other ↦ subst (P k) (sym (get_or_append_left xs (x ∷ []) d k (omega (arith, other, below)))) (old k d (omega (arith, other, below)))
 ]
+
+pub pushed_more : {X : Type 0} (P : ℕ → X → Type 0) (xs new : List X) (x : X) → ((k : ℕ) (d : X) → k < length xs → P k (get_or xs k d)) → P (length xs) x → new ≡ xs ++ x ∷ []
+    → (length new ≡ length xs + 1) × ((k : ℕ) (d : X) → k < length new → P k (get_or new k d))
+pushed_more P xs new x old own pushed =
+    let size : length new ≡ length xs + 1 = ap length pushed ∙ length-append xs (x ∷ []) in
+    (size, λ k d below. subst (λ l. P k (get_or l k d)) (sym pushed) (each_pushed P xs x old own k d (omega (arith, below, size))))

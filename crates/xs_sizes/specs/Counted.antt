@@ -4,10 +4,11 @@ use Rattle.xs_layout.specs.Geometry.{groups_of, significance_groups_of}
 use Rattle.xs_params.specs.declared.header.Header.{Header}
 use Rattle.xs_params.specs.Rows.{Rows}
 use Rattle.xs_params.specs.Geometry.{band_width_of}
-use Rattle.xs_geometry.specs.SliceLines.{BandLines, HasLine, AreLinesOf, lines_at, rows_held}
+use Rattle.xs_geometry.specs.SliceLines.{BandLines, AreLinesOf, lines_at, rows_held}
 use Rattle.xs_sizes.specs.Cut.{AreCutSizes}
 use Rattle.xs_sizes.specs.declared.line.CutSizes.{CutSizes}
-use Rattle.xs_sizes.specs.declared.counts.BandCounts.{BandCounts}
+use Rattle.xs_sizes.specs.Precincts.{ArePrecinctsKept}
+use Rattle.xs_sizes.specs.declared.bands.BandCounts.{BandCounts}
 use Rattle.xs_sizes.specs.declared.counts.SliceCounts.{SliceCounts}
 
 abbrev pub no_sizes : CutSizes
@@ -29,9 +30,15 @@ pub record IsBandCounted (h : Header) (bands : List BandLines) (with_signs : Boo
   pub lines : AreBandSizes h (rows_held bands) with_signs band (lines_at bands band).first ((lines_at bands band).first + length (lines_at bands band).rows) counts.cuts.items
 
 -- those of all bands
+pub record AreBandsCounted (h : Header) (bands : List BandLines) (with_signs : Bool) (counts : List BandCounts) : Type 0 where
+  pub count : length counts ≡ length bands
+  pub each : (band : ℕ) (none : BandCounts) → band < length counts → IsBandCounted h bands with_signs band (slice_index_or counts band none)
+
+-- the precincts of the slice, each of which has one line of the first band
 pub record AreCountsOf (h : Header) (bands : List BandLines) (counts : SliceCounts) : Type 0 where
-  pub count : length counts.bands.items ≡ length bands
-  pub each : (band : ℕ) (none : BandCounts) → band < length bands → IsBandCounted h bands counts.signs band (slice_index_or counts.bands.items band none)
+  pub sizes : AreBandsCounted h bands counts.signs counts.bands.items
+  pub first : counts.first ≡ (lines_at bands 0).first
+  pub precincts : ArePrecinctsKept h (rows_held bands) (lines_at bands 0).first ((lines_at bands 0).first + length (lines_at bands 0).rows) counts.precincts.items
 
 -- the sizes stand for the rows of a slice
 pub record CountsSlice (h : Header) (slice : ℕ) (bands : List BandLines) (counts : SliceCounts) : Type 0 where

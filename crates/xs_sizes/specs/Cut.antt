@@ -1,5 +1,5 @@
 -- The lines of a slice with some of their lowest planes cut off, and their sizes.
-use Rattle.std.specs.Prelude.{◌≡◌, ℕ, ◌-◌, ◌*◌, ◌/◌, ◌<◌, ◌≤◌, max, Bool, true, not, ◌&&◌, if◌then◌else◌, ℤ, List, slice_index_or}
+use Rattle.std.specs.Prelude.{◌≡◌, ℕ, ◌-◌, ◌/◌, ◌<◌, max, Bool, true, not, ◌&&◌, if◌then◌else◌, ℤ, slice_index_or}
 use Rattle.xs_layout.specs.Geometry.{groups_of}
 use Rattle.xs_layout.specs.declared.Quant.{Quant}
 use Rattle.xs_layout.specs.declared.Quant.TheVariants.{DeadZone, Uniform}

@@ -1,5 +1,5 @@
 -- The bits of a line's counts by the bit planes of its code groups and of those above, at each truncation.
-use Rattle.std.specs.Prelude.{◌≡◌, ℕ, ◌+◌, ◌-◌, ◌*◌, ◌<◌, ◌≤◌, max, pos, List, [], length, slice_index_or}
+use Rattle.std.specs.Prelude.{◌≡◌, ℕ, ◌+◌, ◌-◌, ◌*◌, ◌≤◌, max, pos, List, [], length, slice_index_or}
 use Rattle.xs_spelling.specs.Counts.{Line}
 use Rattle.xs_spelling.specs.Sizes.{count_size}
 use Rattle.xs_spelling.specs.Written.{ones_of}

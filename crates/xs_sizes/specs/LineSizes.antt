@@ -16,8 +16,8 @@ abbrev pub next_of : LineSizes → ℕ → ℕ
 next_of line t = if nat_eq t 15 then line.groups else slice_index_or line.plain.all (t + 1) 0
 
 -- the sizes at a truncation: each count that is over it has four planes for each bit past the first, and four signs
-abbrev pub cut_of : LineSizes → ℕ → CutSizes
-cut_of line t = record {
+abbrev pub cut_sizes_at : LineSizes → ℕ → CutSizes
+cut_sizes_at line t = record {
   counts = slice_index_or line.plain.all t 0 ∷ slice_index_or line.predicted.all t 0 ∷ slice_index_or line.plain.kept t 0 ∷ slice_index_or line.predicted.kept t 0 ∷ [];
   data_in = 4 * (slice_index_or line.plain.all t 0 - line.groups) + 4 * (slice_index_or line.plain.all t 0 - next_of line t);
   data_apart = 4 * (slice_index_or line.plain.all t 0 - line.groups);
@@ -58,4 +58,4 @@ pub record AreRegular (line : LineSizes) : Type 0 where
 pub record AreAdded (none above planes : List ℕ) (row : ℕ → ℤ) (with_signs : Bool) (old new : List CutSizes) : Type 0 where
   pub line : LineSizes
   pub sizes : AreLineSizes none above planes row with_signs line
-  pub added : new ≡ old ++ map (cut_of line) (upto 16)
+  pub added : new ≡ old ++ map (cut_sizes_at line) (upto 16)

@@ -1,6 +1,7 @@
 -- The sizes of packets and precincts by the sizes that are kept.
-use Rattle.std.specs.Prelude.{◌≡◌, ℕ, ◌+◌, ◌-◌, ◌*◌, ◌<◌, ◌≤◌, Bool, true, false, List, length, slice_index_or}
-use Rattle.std.specs.List.{sum_by, Contains}
+use Rattle.std.specs.Prelude.{◌≡◌, ℕ, ◌+◌, ◌<◌, ◌≤◌, Bool, true, false, if◌then◌else◌, List, length, slice_index_or}
+use Rattle.std.specs.List.{sum_by}
+use Rattle.xs_lists.specs.Bits.{bytes_for}
 use Rattle.xs_layout.specs.Geometry.{PacketPlace}
 use Rattle.xs_layout.specs.Weighting.{truncation_of}
 use Rattle.xs_layout.specs.declared.Candidate.{Candidate}
@@ -9,20 +10,23 @@ use Rattle.xs_layout.specs.declared.Quant.TheVariants.{DeadZone, Uniform}
 use Rattle.xs_layout.specs.declared.Weight.{Weight}
 use Rattle.xs_params.specs.declared.header.Header.{Header}
 use Rattle.xs_params.specs.Rows.{Rows}
-use Rattle.xs_params.specs.Geometry.{coding_header, packet_bands}
-use Rattle.xs_geometry.specs.SliceLines.{BandLines}
+use Rattle.xs_params.specs.Geometry.{bands_of, coding_header, packet_bands}
+use Rattle.xs_geometry.specs.SliceLines.{BandLines, HasLine, rows_held}
 use Rattle.xs_spelling.specs.Counts.{Line}
 use Rattle.xs_spelling.specs.Sizes.{count_size, data_size, flag_size, signs_size}
-use Rattle.xs_grammar.specs.Coded.{packet_fits}
+use Rattle.xs_grammar.specs.Packet.{packet_fields}
+use Rattle.xs_grammar.specs.Coded.{fields_fit, packet_fits}
 use Rattle.xs_grammar.specs.Sizes.{packet_size}
 use Rattle.xs_rate.specs.Chosen.{content_at, mode_of}
-use Rattle.xs_rate.specs.Modes.{band_lines, fewest}
 use Rattle.xs_sizes.specs.Cut.{cut_line}
 use Rattle.xs_sizes.specs.Counted.{CountsSlice}
+use Rattle.xs_sizes.specs.Precincts.{mode_at, AreAllModes, IsPacketAt}
 use Rattle.xs_sizes.specs.declared.line.CutSizes.{CutSizes}
 use Rattle.xs_sizes.specs.declared.counts.SliceCounts.{SliceCounts}
-use Rattle.xs_sizes.specs.declared.modes.Coding.{Coding}
-use Rattle.xs_sizes.specs.declared.modes.PartBits.{PartBits}
+use Rattle.xs_sizes.specs.declared.packets.Coding.{Coding}
+use Rattle.xs_sizes.specs.declared.packets.PartBits.{PartBits}
+use Rattle.xs_sizes.specs.declared.precincts.PacketBands.{PacketBands}
+use Rattle.xs_sizes.specs.declared.precincts.PrecinctCounts.{PrecinctCounts}
 
 -- the truncation of each band at a candidate
 abbrev pub AreCutsOf : List Weight → Candidate → List ℕ → Type 0
@@ -45,13 +49,6 @@ IsCoding slice bands coding = AreKept coding.geometry.now coding.counts.now codi
 abbrev pub signs_of : Quant → CutSizes → ℕ
 signs_of DeadZone sizes = sizes.dead_zone
 signs_of Uniform sizes = sizes.uniform
-
--- the bits of flags and counts of some lines of a band with t planes cut off, in a mode; and the mode that the band has in a precinct
-abbrev pub lines_bits : Header → Rows → ℕ → ℕ → ℕ → List ℕ → ℕ
-lines_bits h rows band t mode lines = sum_by (λ line. flag_size (cut_line h h.quant rows t mode band line) + count_size (cut_line h h.quant rows t mode band line)) lines
-
-abbrev pub mode_at : Header → Rows → ℕ → ℕ → ℕ → ℕ
-mode_at h rows precinct band t = fewest (λ mode. lines_bits h rows band t mode (band_lines h precinct band))
 
 -- the bits of a line in a mode
 pub record AreLineBits (h : Header) (rows : Rows) (t mode band line : ℕ) (bits : PartBits) : Type 0 where
@@ -77,3 +74,23 @@ packet_size_at h rows candidate precinct place = packet_size h (content_at h row
 
 abbrev pub packet_fits_at : Header → Rows → Candidate → ℕ → PacketPlace → Bool
 packet_fits_at h rows candidate precinct place = packet_fits h (content_at h rows candidate) (mode_of h (content_at h rows candidate) precinct) place
+
+-- a packet of the slice whose rows these are, at a place of a precinct
+pub record IsPacketOf (slice : ℕ) (bands : List BandLines) (precinct : ℕ) (place : PacketPlace) (coding : Coding) (kept : PrecinctCounts) (packet : PacketBands) : Type 0 where
+  pub coded : IsCoding slice bands coding
+  pub at : IsPacketAt coding.geometry.now place packet
+  pub modes : AreAllModes coding.geometry.now (rows_held bands) precinct kept.modes.items
+  pub lines : (band : ℕ) → packet.first ≤ band → band < packet.end → HasLine bands band packet.line
+
+-- the bytes of a packet whose parts have these bits, and whether each part has room in its field
+abbrev pub parts_size : Bool → PartBits → ℕ
+parts_size apart bits = 5 + bytes_for bits.flags + bytes_for bits.counts + bytes_for bits.numbers + (if apart then bytes_for bits.signs else 0)
+
+abbrev pub parts_fit : Bool → PartBits → Bool
+parts_fit apart bits = fields_fit (packet_fields false false (bytes_for bits.numbers) (bytes_for bits.counts) (if apart then bytes_for bits.signs else 0))
+
+-- with these truncations of the bands the rows are coded at a candidate
+pub record IsCodedAt (slice : ℕ) (bands : List BandLines) (weights : List Weight) (candidate : Candidate) (coding : Coding) (cuts : List ℕ) : Type 0 where
+  pub coded : IsCoding slice bands coding
+  pub count : length weights ≡ bands_of coding.geometry.now
+  pub truncations : AreCutsOf weights candidate cuts

@@ -1,47 +1,27 @@
 //! What is kept of a slice's coefficients to count its sizes.
-ghost use Rattle.std.specs.Prelude.{◌≡◌, ℕ, ◌<◌, ◌≤◌, ◌++◌, ◌∷◌, [], length, map, replicate, true, IfOk, OnOk};
-ghost use Rattle.xs_bits.specs.Counts.{AreCounts};
-ghost use Rattle.xs_lists.specs.Spelling.{upto};
-ghost use Rattle.xs_params.specs.Geometry.{bands_of, slice_count};
+ghost use Rattle.std.specs.Prelude.{◌≡◌, ℕ, ◌<◌, ◌++◌, ◌∷◌, [], true, IfOk, OnOk};
+ghost use Rattle.xs_params.specs.Geometry.{slice_count};
 ghost use Rattle.xs_geometry.specs.SliceLines.{AreLinesOf, rows_held};
-ghost use Rattle.xs_signal.specs.Lines.{entries_of};
-ghost use Rattle.xs_rate.specs.Content.{planes_of};
-ghost use Rattle.xs_rate.specs.Laws.{AreSmall, IsSmallRow};
+ghost use Rattle.xs_rate.specs.Laws.{AreSmall};
 ghost use Rattle.xs_sizes.specs.Lengths.{AreLengths};
-ghost use Rattle.xs_sizes.specs.LineSizes.{AreAdded};
-ghost use Rattle.xs_sizes.specs.Counted.{AreCountsOf, IsBandCounted};
+ghost use Rattle.xs_sizes.specs.Counted.{AreBandsCounted, AreCountsOf};
 
+use crate::bands::{BandCounts, Counting, count_band};
 use crate::lengths::length_table;
-use crate::line::{CutSizes, Planes, line_sizes, push_cuts};
+use crate::precincts::{PrecinctCounts, keep_precincts};
 use std::alloc::Global;
 use xs_geometry::{Geometry, SliceRows};
-use xs_groups::count_planes;
 use xs_io::Memory;
 
-/// The sizes of the lines of a band: the first line, the flags that a line has, and for each line in turn its sizes at the
-/// truncations 0 to 15.
-#[derive(Drop)]
-pub struct BandCounts {
-    pub first: u32,
-    pub flags: u32,
-    pub cuts: Vec<CutSizes>,
-}
-
 /// What the counts and magnitudes of a slice's coefficients give at each truncation, so that the sizes of a candidate are
-/// sums of numbers that are there. Signs apart are counted only where they are wanted.
+/// sums of numbers that are there: the sizes of the bands' lines, and from the slice's first precinct on the packets of each
+/// precinct and the modes of its bands. Signs apart are counted only where they are wanted.
 #[derive(Drop)]
 pub struct SliceCounts {
     pub signs: bool,
+    pub first: u32,
     pub bands: Vec<BandCounts>,
-}
-
-// What is counted, and what the bits of counts are.
-#[derive(Clone, Copy)]
-struct Counting<'a> {
-    geometry: &'a Geometry,
-    rows: &'a SliceRows,
-    table: &'a [[u8; 16]],
-    signs: bool,
+    pub precincts: Vec<PrecinctCounts>,
 }
 
 impl SliceCounts {
@@ -74,13 +54,31 @@ impl SliceCounts {
             table: table.as_slice(),
             signs,
         };
-        let mut bands = Vec::new(alloc);
-        'bands: for band in 0..geometry.bands() {
-            let counts = count_band(alloc, &counting, band)?;
-            push_band(&mut bands, counts)?;
-        }
-        Ok(SliceCounts { signs, bands })
+        let bands = count_bands(alloc, &counting)?;
+        let (first, end) = rows.lines(0);
+        let precincts = keep_precincts(alloc, &counting, bands.as_slice(), (first, end))?;
+        Ok(SliceCounts {
+            signs,
+            first,
+            bands,
+            precincts,
+        })
     }
+}
+
+// The sizes of the lines of all bands.
+fn count_bands(alloc: Global, counting: &Counting) -> Result<Vec<BandCounts>, Memory>
+    requires lines { (slice : ℕ) × AreLinesOf counting.now.geometry.now slice counting.now.rows.now }
+    requires table { AreLengths counting.now.table.now }
+    requires small { AreSmall (rows_held counting.now.rows.now) }
+    ensures { IfOk result (λ bands. AreBandsCounted counting.now.geometry.now counting.now.rows.now counting.now.signs bands.items) }
+{
+    let mut bands = Vec::new(alloc);
+    'bands: for band in 0..counting.geometry.bands() {
+        let counts = count_band(alloc, counting, band)?;
+        push_band(&mut bands, counts)?;
+    }
+    Ok(bands)
 }
 
 // Appends the sizes of a band.
@@ -88,119 +86,4 @@ fn push_band(bands: &mut Vec<BandCounts>, counts: BandCounts) -> Result<(), Memo
     ensures { OnOk result (bands.new.items ≡ bands.old.items ++ counts ∷ []) }
 {
     bands.push(counts).map_err(|_| Memory)
-}
-
-// The planes of a line's code groups, of the line above, and none.
-#[derive(Drop)]
-struct Scratch {
-    planes: Vec<u8>,
-    above: Vec<u8>,
-    none: Vec<u8>,
-}
-
-// The sizes of the lines of a band.
-fn count_band(alloc: Global, counting: &Counting, band: u32) -> Result<BandCounts, Memory>
-    requires lines { (slice : ℕ) × AreLinesOf counting.now.geometry.now slice counting.now.rows.now }
-    requires band { band < bands_of counting.now.geometry.now }
-    requires table { AreLengths counting.now.table.now }
-    requires small { AreSmall (rows_held counting.now.rows.now) }
-    ensures { IfOk result (IsBandCounted counting.now.geometry.now counting.now.rows.now counting.now.signs band) }
-{
-    let groups = (counting.geometry.band_width(band) + 3) / 4;
-    let (first, end) = counting.rows.lines(band);
-    let mut scratch = blank(alloc, groups)?;
-    let mut cuts = Vec::new(alloc);
-    'lines: for line in first..end {
-        add_line(
-            &mut cuts,
-            &mut scratch,
-            counting,
-            counting.rows.row(band, line),
-        )?;
-    }
-    Ok(BandCounts {
-        first,
-        flags: (groups + 7) / 8,
-        cuts,
-    })
-}
-
-// No planes of so many code groups.
-fn blank(alloc: Global, groups: u32) -> Result<Scratch, Memory>
-    ensures planes { IfOk result (λ scratch. scratch.planes.items ≡ replicate groups 0) }
-    ensures above { IfOk result (λ scratch. scratch.above.items ≡ replicate groups 0) }
-    ensures none { IfOk result (λ scratch. scratch.none.items ≡ replicate groups 0) }
-{
-    Ok(Scratch {
-        planes: zeros(alloc, groups)?,
-        above: zeros(alloc, groups)?,
-        none: zeros(alloc, groups)?,
-    })
-}
-
-// So many zeros.
-fn zeros(alloc: Global, count: u32) -> Result<Vec<u8>, Memory>
-    ensures { IfOk result (λ zeros. zeros.items ≡ replicate count 0) }
-{
-    vec![in alloc; 0; count as usize].map_err(|_| Memory)
-}
-
-// Adds the sizes of a line, whose planes are then those above.
-fn add_line(
-    cuts: &mut Vec<CutSizes>,
-    scratch: &mut Scratch,
-    counting: &Counting,
-    row: &[i32],
-) -> Result<(), Memory>
-    requires table { AreLengths counting.now.table.now }
-    requires small { IsSmallRow (entries_of row.now) }
-    requires few { length scratch.old.planes.items ≤ 2048 }
-    requires above { length scratch.old.above.items ≡ length scratch.old.planes.items }
-    requires counts { AreCounts scratch.old.above.items }
-    requires none { scratch.old.none.items ≡ replicate (length scratch.old.planes.items) 0 }
-    ensures added { OnOk result (AreAdded scratch.old.none.items scratch.old.above.items (map (planes_of (entries_of row.now)) (upto (length scratch.old.planes.items))) (entries_of row.now) counting.now.signs cuts.old.items cuts.new.items) }
-    ensures above { OnOk result (scratch.new.above.items ≡ map (planes_of (entries_of row.now)) (upto (length scratch.old.planes.items))) }
-    ensures size { OnOk result (length scratch.new.planes.items ≡ length scratch.old.planes.items) }
-    ensures none { OnOk result (scratch.new.none.items ≡ scratch.old.none.items) }
-{
-    fill(scratch, row);
-    let planes = Planes {
-        planes: scratch.planes.as_slice(),
-        above: scratch.above.as_slice(),
-        none: scratch.none.as_slice(),
-    };
-    let line = line_sizes(counting.table, &planes, row, counting.signs);
-    push_cuts(cuts, &line)?;
-    rise(scratch);
-    Ok(())
-}
-
-// Counts the planes of a row.
-fn fill(scratch: &mut Scratch, row: &[i32])
-    requires small { IsSmallRow (entries_of row.now) }
-    requires few { length scratch.old.planes.items ≤ 2048 }
-    ensures planes { scratch.new.planes.items ≡ map (planes_of (entries_of row.now)) (upto (length scratch.old.planes.items)) }
-    ensures counts { AreCounts scratch.new.planes.items }
-    ensures above { scratch.new.above.items ≡ scratch.old.above.items }
-    ensures none { scratch.new.none.items ≡ scratch.old.none.items }
-{
-    count_planes(row, scratch.planes.as_mut_slice());
-}
-
-// Takes the planes for those above.
-fn rise(scratch: &mut Scratch)
-    requires { length scratch.old.above.items ≡ length scratch.old.planes.items }
-    ensures planes { scratch.new.planes.items ≡ scratch.old.planes.items }
-    ensures above { scratch.new.above.items ≡ scratch.old.planes.items }
-    ensures none { scratch.new.none.items ≡ scratch.old.none.items }
-{
-    copy(scratch.planes.as_slice(), scratch.above.as_mut_slice());
-}
-
-// Copies a list into another one of its length.
-fn copy(from: &[u8], into: &mut [u8])
-    requires { length into.old ≡ length from.now }
-    ensures { into.new ≡ from.now }
-{
-    into.copy_from_slice(from);
 }

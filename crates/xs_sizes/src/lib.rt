@@ -1,13 +1,18 @@
 //! The sizes of a slice at a candidate, counted without writing.
 #![tactic(auto)]
 
+mod bands;
 mod counts;
 mod cuts;
 mod lengths;
 mod line;
+mod measure;
 mod modes;
+mod packets;
+mod precincts;
 mod signs;
 
 pub use counts::SliceCounts;
 pub use cuts::cuts_of;
-pub use modes::{Coding, PartBits, line_bits};
+pub use measure::{precinct_bytes, slice_fits, slice_size};
+pub use packets::{Coding, Measured};

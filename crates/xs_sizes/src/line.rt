@@ -5,7 +5,7 @@ ghost use Rattle.xs_signal.specs.Lines.{entries_of};
 ghost use Rattle.xs_rate.specs.Content.{planes_of};
 ghost use Rattle.xs_rate.specs.Laws.{IsSmallRow};
 ghost use Rattle.xs_sizes.specs.Lengths.{AreLengths};
-ghost use Rattle.xs_sizes.specs.LineSizes.{AreLineSizes, ArePlanes, AreRegular, AreSignSizes, cut_of};
+ghost use Rattle.xs_sizes.specs.LineSizes.{AreLineSizes, ArePlanes, AreRegular, AreSignSizes, cut_sizes_at};
 
 use crate::lengths::{CountSizes, count_sizes};
 use crate::signs::count_signs;
@@ -66,19 +66,17 @@ fn sign_sizes(row: &[i32], planes: &[u8], kind: Quant, wanted: bool) -> [u32; 16
     requires planes { planes.now ≡ map (planes_of (entries_of row.now)) (upto (length planes.now)) }
     ensures { wanted ≡ true → AreSignSizes kind (entries_of row.now) (length planes.now) result }
 {
-    let mut sizes = [0; 16];
     if wanted {
-        'cuts: for t in 0..16 {
-            sizes[t] = count_signs(row, planes, kind, t as u8);
-        }
+        count_signs(row, planes, kind)
+    } else {
+        [0; 16]
     }
-    sizes
 }
 
 /// Appends the sizes of a line at the truncations 0 to 15.
 pub fn push_cuts(cuts: &mut Vec<CutSizes>, line: &LineSizes) -> Result<(), Memory>
     requires room { AreRegular line.now }
-    ensures { OnOk result (cuts.new.items ≡ cuts.old.items ++ map (cut_of line.now) (upto 16)) }
+    ensures { OnOk result (cuts.new.items ≡ cuts.old.items ++ map (cut_sizes_at line.now) (upto 16)) }
 {
     'cuts: for t in 0..16 {
         push_cut(cuts, cut_sizes(line, t))?;
@@ -97,7 +95,7 @@ fn push_cut(cuts: &mut Vec<CutSizes>, sizes: CutSizes) -> Result<(), Memory>
 fn cut_sizes(line: &LineSizes, t: usize) -> CutSizes
     requires cut { t ≤ 15 }
     requires regular { AreRegular line.now }
-    ensures { result ≡ cut_of line.now t }
+    ensures { result ≡ cut_sizes_at line.now t }
 {
     let bits = line.plain.all[t];
     let next = if t == 15 {

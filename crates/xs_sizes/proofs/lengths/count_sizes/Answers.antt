@@ -1,5 +1,4 @@
-use Rattle.std.proofs.Common.{◌≡◌, ◌+◌, ◌*◌, ◌<◌, ◌≤◌, length, slice_index_or, arith}
-use Rattle.std.specs.Prelude.{nat_le}
+use Rattle.std.proofs.Common.{◌*◌, ◌<◌, length, slice_index_or, arith}
 use Rattle.xs_sizes.proofs.Coded.{plain_more, kept_more}
 use Rattle.xs_sizes.proofs.lengths.count_sizes.Goals as goal
 

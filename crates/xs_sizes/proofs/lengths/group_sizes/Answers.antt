@@ -1,6 +1,5 @@
-use Rattle.std.proofs.Common.{◌≡◌, ◌+◌, ◌-◌, ◌*◌, ◌<◌, ◌≤◌, [], length, slice_index_or, ◌∙◌, arith}
-use Rattle.xs_sizes.specs.Lengths.{length_of}
-use Rattle.xs_sizes.proofs.Coded.{is_same, length_few, size_more, same_more, and_true}
+use Rattle.std.proofs.Common.{◌<◌, length, slice_index_or, ◌∙◌, arith}
+use Rattle.xs_sizes.proofs.Coded.{is_same, length_few, size_more, same_more}
 use Rattle.xs_sizes.proofs.lengths.group_sizes.Goals as goal
 
 pub bounds-table-pair : goal.bounds-table-pair

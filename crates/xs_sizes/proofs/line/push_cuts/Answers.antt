@@ -1,12 +1,12 @@
 use Rattle.std.proofs.Common.{◌≡◌, ◌+◌, ◌++◌, ◌∷◌, [], map, sym, ap, ◌∙◌, arith, append_assoc}
 use Rattle.std.proofs.lemmas.List.FromFn.{map-range_with_len_more}
 use Rattle.xs_lists.specs.Spelling.{upto}
-use Rattle.xs_sizes.specs.LineSizes.{cut_of}
+use Rattle.xs_sizes.specs.LineSizes.{cut_sizes_at}
 use Rattle.xs_sizes.proofs.line.push_cuts.Goals as goal
 
 pub cuts-preserved : goal.cuts-preserved
 cuts-preserved c =
-    let f = cut_of c.args.line.now in
+    let f = cut_sizes_at c.args.line.now in
     let t = c.cuts.t in
     let old = c.args.cuts.now.items in
     let none : 0 + t ≡ t = omega arith in
@@ -18,4 +18,4 @@ cuts-preserved c =
 pub returns : goal.returns
 returns c =
     let all : c.cuts.t ≡ 16 = omega (arith, c.cuts-test.false, c.cuts.auto.t-end) in
-    c.cuts.invariant.done ∙ ap (λ n. c.args.cuts.now.items ++ map (cut_of c.args.line.now) (upto n)) all
+    c.cuts.invariant.done ∙ ap (λ n. c.args.cuts.now.items ++ map (cut_sizes_at c.args.line.now) (upto n)) all

@@ -4,7 +4,7 @@ use Rattle.std.specs.List.{range_with_len}
 use Rattle.xs_params.specs.declared.header.Header.{Header}
 use Rattle.xs_geometry.specs.SliceLines.{BandLines, rows_held}
 use Rattle.xs_sizes.specs.Counted.{IsBandCounted}
-use Rattle.xs_sizes.specs.Measured.{lines_bits}
+use Rattle.xs_sizes.specs.Precincts.{lines_bits}
 use Rattle.xs_sizes.proofs.modes.bits_in.Given as goal
 
 abbrev pub invariant-lines : goal.invariant-lines

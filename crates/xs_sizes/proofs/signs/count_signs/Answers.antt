@@ -1,8 +1,7 @@
-use Rattle.std.proofs.Common.{◌≡◌, ◌+◌, ◌^◌, ◌<◌, ◌≤◌, map, length, refl, sym, ap, subst, ◌∙◌, arith}
+use Rattle.std.proofs.Common.{◌≡◌, ◌+◌, ◌^◌, ◌<◌, map, length, refl, sym, ap, subst, ◌∙◌, arith}
 use Rattle.std.specs.Prelude.{All, nat_lt, count_by, if◌then◌else◌, slice_index_or, unsigned_abs}
 use Rattle.std.proofs.lemmas.List.Elements.{All-from_recursion}
 use Rattle.std.proofs.lemmas.List.FromFn.{get_or-map-range_with_len}
-use Rattle.xs_lists.specs.Spelling.{upto}
 use Rattle.xs_signal.specs.Lines.{entries_of}
 use Rattle.xs_signal.specs.Quantiser.{quantised}
 use Rattle.xs_spelling.specs.Data.{columns_of}
@@ -11,16 +10,16 @@ use Rattle.xs_groups.proofs.Planes.{planes_most}
 use Rattle.xs_sizes.proofs.Sent.{group_room, group_more}
 use Rattle.xs_sizes.proofs.signs.count_signs.Goals as goal
 
-pub group_signs-signs-requires-clause-count : goal.group_signs-signs-requires-clause-count
-group_signs-signs-requires-clause-count c =
+pub ends_of-ends-requires-clause-count : goal.ends_of-ends-requires-clause-count
+ends_of-ends-requires-clause-count c =
     let row = entries_of c.args.row.now in
     let group = c.groups.group in
     let none : 0 + group ≡ group = omega arith in
     let at : slice_index_or c.args.planes.now group 0 ≡ planes_of row group = ap (λ l. slice_index_or l group 0) c.requires.planes ∙ get_or-map-range_with_len (planes_of row) 0 (length c.args.planes.now) group group 0 c.groups-test.true none in
     omega (arith, at, planes_most row group)
 
-pub group_signs-signs-requires-clause-small : goal.group_signs-signs-requires-clause-small
-group_signs-signs-requires-clause-small c =
+pub ends_of-ends-requires-clause-small : goal.ends_of-ends-requires-clause-small
+ends_of-ends-requires-clause-small c =
     let row = entries_of c.args.row.now in
     let group = c.groups.group in
     let none : 0 + group ≡ group = omega arith in
@@ -31,13 +30,17 @@ group_signs-signs-requires-clause-small c =
 
 pub groups-preserved : goal.groups-preserved
 groups-preserved c =
+    let kind = c.args.kind in
     let row = entries_of c.args.row.now in
     let group = c.groups.group in
+    let n = length c.args.planes.now in
     let count = slice_index_or c.args.planes.now group 0 in
     let none : 0 + group ≡ group = omega arith in
-    let at : count ≡ planes_of row group = ap (λ l. slice_index_or l group 0) c.requires.planes ∙ get_or-map-range_with_len (planes_of row) 0 (length c.args.planes.now) group group 0 c.groups-test.true none in
+    let at : count ≡ planes_of row group = ap (λ l. slice_index_or l group 0) c.requires.planes ∙ get_or-map-range_with_len (planes_of row) 0 n group group 0 c.groups-test.true none in
     record {
-      size = group_more c.args.kind row (length c.args.planes.now) c.args.t group count c.groups.signs c.group_signs-signs.result (nat_lt c.args.t count) at refl c.groups-test.true
-          (c.group_signs-signs.ensures.signs ∙ ap (λ l. if nat_lt c.args.t count then count_by (λ number. nat_lt 0 number) (map (quantised c.args.kind count c.args.t) l) else 0) c.magnitudes_at.ensures) c.groups.invariant.size;
-      few = omega (arith, c.group_signs-signs.ensures.few, c.groups.invariant.few);
+      signs = λ t le. (
+          let own = c.ends_of-ends.ensures.ends t ∙ ap (λ l. if nat_lt t count then count_by (λ number. nat_lt 0 number) (map (quantised kind count t) l) else 0) c.magnitudes_at.ensures in
+          let more = group_more kind row n t group count (slice_index_or c.groups.sizes t 0) (count_by (λ end. nat_lt t end) c.ends_of-ends.result) (nat_lt t count) at refl c.groups-test.true own (c.groups.invariant.signs t le) in
+          omega (arith, more, c.add_signs.ensures t le));
+      few = λ t le. omega (arith, c.add_signs.ensures t le, c.groups.invariant.few t le, c.ends_of-ends.ensures.few t);
     }
