@@ -1,26 +1,24 @@
 -- Lines with the same counts and predictions have the same flags and count bits.
-use Rattle.std.proofs.Common.{◌≡◌, ℕ, zero, suc, ◌+◌, ◌-◌, ◌*◌, ◌/◌, ◌<◌, ◌≤◌, min, List, [], ◌∷◌, ◌++◌, map, length, get_or, refl, sym, ap, ◌∙◌, arith}
+use Rattle.std.proofs.Common.{◌≡◌, ℕ, zero, suc, ◌+◌, ◌-◌, ◌*◌, ◌/◌, ◌<◌, ◌≤◌, min, List, [], map, length, get_or, refl, ap, ◌∙◌, arith}
 use Rattle.std.specs.Prelude.{Bool, true, false, not, nat_eq, ◌&&◌, if◌then◌else◌, max, pos}
 use Rattle.std.specs.List.{flat_map, list_all, range_with_len}
 use Rattle.xs_lists.specs.Bits.{bit_of}
 use Rattle.xs_lists.specs.Spelling.{upto}
 use Rattle.xs_layout.specs.declared.Candidate.{Candidate}
 use Rattle.xs_layout.specs.Geometry.{groups_of, significance_groups_of}
-use Rattle.xs_layout.specs.Weighting.{truncation_of}
 use Rattle.xs_params.specs.declared.header.Header.{Header}
 use Rattle.xs_params.specs.Geometry.{band_width_of}
 use Rattle.xs_signal.specs.Quantiser.{sent}
 use Rattle.xs_spelling.specs.Counts.{Line, unary, has_flags, flag_bits, predicts_above, predicted}
-use Rattle.xs_spelling.specs.Data.{sign_bits}
 use Rattle.xs_spelling.specs.Sizes.{SameNumbers, numbered}
-use Rattle.xs_spelling.specs.Written.{ones_of, count_bits, members_of, written_flag, line_count_bits, line_data_bits}
+use Rattle.xs_spelling.specs.Written.{ones_of, count_bits, written_flag, line_count_bits}
 use Rattle.xs_spelling.proofs.Redata.{flat-range, map-range, data_by_numbers}
-use Rattle.xs_grammar.specs.Precinct.{coded_line, weight_of, is_first_line}
+use Rattle.xs_grammar.specs.Precinct.{coded_line, is_first_line}
 use Rattle.xs_rate.specs.Coefficients.{Rows}
 use Rattle.xs_rate.specs.Content.{planes_of}
 use Rattle.xs_rate.specs.Chosen.{content_at}
 use Rattle.xs_planes.specs.Numbers.{AreNumbers}
-use Rattle.xs_precinct_write.specs.Outgoing.{Outgoing, line_counted, counts_cut, values_sent, AreCountsOut, IsSentAs}
+use Rattle.xs_precinct_write.specs.Outgoing.{Outgoing, line_counted, values_sent, AreCountsOut, IsCounted, IsSentAs}
 use Rattle.xs_precinct_write.proofs.Sending.{count_at, value_at, length_cut}
 
 all_same : (f g : ℕ → Bool) (first n : ℕ) → ((i : ℕ) → first ≤ i → i < first + n → f i ≡ g i) → list_all f (range_with_len first n) ≡ list_all g (range_with_len first n)
@@ -78,13 +76,6 @@ predict_same true true true a b t e same = absurd (cc e)
 predict_same true true false a b t e same = ap (λ k. predicted k t t) (same refl)
 predict_same true false true a b t e same = refl
 predict_same true false false a b t e same = absurd (cc e)
-
--- what is held of a line of rows at a candidate
-pub record IsCounted (h : Header) (rows : Rows) (candidate : Candidate) (band line : ℕ) (o : Outgoing) : Type 0 where
-  pub cut : o.cut ≡ truncation_of candidate.q candidate.r (weight_of h band)
-  pub counts : o.counts ≡ counts_cut o.cut (rows band line) (groups_of (band_width_of h band))
-  pub there : o.there ≡ not (is_first_line h band line)
-  pub above : o.there ≡ true → o.above ≡ counts_cut o.cut (rows band (line - 1)) (groups_of (band_width_of h band))
 
 pub lines_alike : (h : Header) (rows : Rows) (candidate : Candidate) (band line mode : ℕ) (o : Outgoing) → IsCounted h rows candidate band line o
     → SameCounts (line_counted o mode) (coded_line h (content_at h rows candidate) mode band line)

@@ -1,11 +1,12 @@
 -- The lines of a packet, one after the other.
-use Rattle.std.proofs.Common.{◌≡◌, ℕ, zero, suc, ◌+◌, ◌-◌, ◌*◌, ◌%◌, ◌<◌, ◌≤◌, List, [], ◌∷◌, ◌++◌, length, drop, get_or, refl, sym, ap, subst, ◌∙◌, arith, append_assoc, append-nil, length-append}
-use Rattle.std.specs.Prelude.{Bool, true, false, if◌then◌else◌, replicate}
+use Rattle.std.proofs.Common.{◌≡◌, ℕ, ◌+◌, ◌-◌, ◌*◌, ◌%◌, ◌<◌, ◌≤◌, List, [], ◌++◌, length, drop, get_or, sym, ap, ◌∙◌, arith, append_assoc, append-nil, length-append}
+use Rattle.std.specs.Prelude.{replicate}
 use Rattle.std.specs.List.{flat_map, range_with_len}
 use Rattle.std.proofs.lemmas.List.{drop_more, drop_all}
-use Rattle.xs_lists.specs.Bits.{bits_of_bytes, bytes_for}
+use Rattle.xs_lists.specs.Bits.{bits_of_bytes}
 use Rattle.xs_lists.specs.Packing.{packed, missing_bits, AreBits}
-use Rattle.xs_lists.proofs.Packing.{packed_bits}
+use Rattle.xs_lists.proofs.Packing.{packed_bits, length-packed}
+use Rattle.xs_lists.proofs.Ranges.{range_first, range_end}
 
 -- one line more
 pub rest_first : {A : Type 0} (f : A → List ℕ) (xs : List A) (k : ℕ) (d : A) → k < length xs → flat_map f (drop k xs) ≡ f (get_or xs k d) ++ flat_map f (drop (k + 1) xs)
@@ -15,9 +16,6 @@ pub rest_more : {A : Type 0} (f : A → List ℕ) (xs : List A) (k : ℕ) (d : A
     → whole ≡ new ++ flat_map f (drop (k + 1) xs)
 rest_more f xs k d whole out new inside before here =
     before ∙ ap (λ l. out ++ l) (rest_first f xs k d inside) ∙ sym (append_assoc out (f (get_or xs k d)) (flat_map f (drop (k + 1) xs))) ∙ ap (λ l. l ++ flat_map f (drop (k + 1) xs)) (sym here)
-
-pub rest_length : {A : Type 0} (f : A → List ℕ) (xs : List A) (k : ℕ) (d : A) → k < length xs → length (flat_map f (drop k xs)) ≡ length (f (get_or xs k d)) + length (flat_map f (drop (k + 1) xs))
-rest_length f xs k d inside = ap length (rest_first f xs k d inside) ∙ length-append (f (get_or xs k d)) (flat_map f (drop (k + 1) xs))
 
 pub rest_none : {A : Type 0} (f : A → List ℕ) (xs : List A) (k : ℕ) → length xs ≤ k → flat_map f (drop k xs) ≡ []
 rest_none f xs k past = ap (flat_map f) (drop_all k xs past)
@@ -34,10 +32,18 @@ part_bits before part now next border are here align =
     ∙ append_assoc before part (replicate (missing_bits (length part)) 0)
     ∙ ap (λ l. before ++ l) (sym (packed_bits part are))
 
--- the same bits from other items
-pub joins_same : {A : Type 0} (f : A → List ℕ) (g : ℕ → List ℕ) (xs : List A) (d : A) (first : ℕ) → ((k : ℕ) → k < length xs → f (get_or xs k d) ≡ g (first + k)) → flat_map f xs ≡ flat_map g (range_with_len first (length xs))
-joins_same f g [] d first same = refl
-joins_same f g (x ∷ xs) d first same =
-    let here : first + 0 ≡ first = omega arith in
-    ap (λ l. l ++ flat_map f xs) (same 0 (omega arith) ∙ ap g here)
-    ∙ ap (λ l. g first ++ l) (joins_same f g xs d (first + 1) (λ k inside. let next : first + suc k ≡ first + 1 + k = omega arith in same (suc k) (omega (arith, inside)) ∙ ap g next))
+-- Parts of a packet, band after band
+
+pub size_first : (f : ℕ → List ℕ) (k end : ℕ) → k < end → length (flat_map f (range_with_len k (end - k))) ≡ length (f k) + length (flat_map f (range_with_len (k + 1) (end - (k + 1))))
+size_first f k end less = ap (λ l. length (flat_map f l)) (range_first k end less) ∙ length-append (f k) (flat_map f (range_with_len (k + 1) (end - (k + 1))))
+
+pub none_left : (f : ℕ → List ℕ) (k end : ℕ) → end ≤ k → flat_map f (range_with_len k (end - k)) ≡ []
+none_left f k end past = ap (flat_map f) (range_end k end past)
+
+-- all is written when nothing is left
+pub whole_put : (whole out left : List ℕ) → whole ≡ out ++ left → left ≡ [] → out ≡ whole
+whole_put whole out left before none = sym (before ∙ ap (λ l. out ++ l) none ∙ append-nil out)
+
+-- the spare bits that an aligned part takes
+pub aligned_room : (before part now : List ℕ) → length before % 8 ≡ 0 → now ≡ before ++ part → length part + missing_bits (length now) ≡ 8 * length (packed part)
+aligned_room before part now border here = omega (arith, ap length here, missing_after before part border, ap (λ l. missing_bits (length l)) here, length-packed part)

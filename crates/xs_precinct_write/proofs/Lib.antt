@@ -1,3 +1,10 @@
 pub mod Sending
 pub mod Alike
 pub mod Joined
+pub mod Sized
+pub mod Heads
+pub mod Counting
+pub mod Alikes
+pub mod Packets
+pub mod Precincts
+pub mod Modes

@@ -1,12 +1,11 @@
 -- The counts and the numbers of a row at a truncation.
-use Rattle.std.proofs.Common.{◌≡◌, ℕ, zero, suc, ℤ, ◌+◌, ◌-◌, ◌*◌, ◌/◌, ◌^◌, ◌<◌, ◌≤◌, List, [], ◌∷◌, length, map, get_or, set, refl, sym, ap, subst, ◌∙◌, arith}
+use Rattle.std.proofs.Common.{◌≡◌, ℕ, zero, suc, ℤ, ◌+◌, ◌-◌, ◌*◌, ◌/◌, ◌^◌, ◌<◌, ◌≤◌, List, length, map, get_or, set, refl, sym, ap, subst, ◌∙◌, arith}
 use Rattle.std.specs.Prelude.{Bool, true, false, nat_lt, max, if◌then◌else◌, pos, negsuc, unsigned_abs}
 use Rattle.std.specs.List.{range_with_len, AllByRecursion}
 use Rattle.std.proofs.lemmas.Bool.{ltb-true, ltb-false}
 use Rattle.std.proofs.lemmas.List.FromFn.{get_or-map-range_with_len, length-map-range_with_len}
 use Rattle.std.proofs.Math.Pow.{pow_mono}
 use Rattle.xs_layout.specs.declared.Quant.{Quant}
-use Rattle.xs_lists.specs.Spelling.{upto}
 use Rattle.xs_signal.specs.Quantiser.{quantised, with_sign_of, sent}
 use Rattle.xs_signal.proofs.Laws.{quantised_fits}
 use Rattle.xs_signal.proofs.Magnitudes.{size_signed}
@@ -56,13 +55,6 @@ quantised_small kind p t x most cut small =
     let fits = quantised_fits kind (max p t) t x (omega arith) (omega (arith, small, up)) in
     let top : 2 ^ (max p t - t) ≤ 2 ^ 15 = pow_mono {i = max p t - t} {j = 15} (omega (arith, most, cut)) in
     omega (arith, fits, top)
-
-pub group_small : (row : ℕ → ℤ) (t group : ℕ) → IsSmallRow row → (i : ℕ) → i < 4 → unsigned_abs (row (4 * group + i)) < 2 ^ max (planes_of row group) t
-group_small row t group small i few =
-    let here : (4 * group + i) / 4 ≡ group = omega (arith, few) in
-    let low : unsigned_abs (row (4 * group + i)) < 2 ^ planes_of row group = subst (λ g. unsigned_abs (row (4 * group + i)) < 2 ^ planes_of row g) here (planes-room row small (4 * group + i)) in
-    let up : 2 ^ planes_of row group ≤ 2 ^ max (planes_of row group) t = pow_mono {i = planes_of row group} {j = max (planes_of row group) t} (omega arith) in
-    omega (arith, low, up)
 
 pub column_sent : (kind : Quant) (row : ℕ → ℤ) (t group : ℕ) → IsSmallRow row → (i : ℕ) → i < 4
     → with_sign_of (row (4 * group + i)) (quantised kind (max (planes_of row group) t) t (unsigned_abs (row (4 * group + i)))) ≡ sent kind (planes_of row group) t (row (4 * group + i))

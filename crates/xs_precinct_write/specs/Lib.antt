@@ -1,1 +1,3 @@
 pub mod Outgoing
+pub mod Parts
+pub mod Sent

@@ -1,11 +1,12 @@
 -- A line of a band on its way into a packet: what its counts are predicted from, its counts and its numbers.
-use Rattle.std.specs.Prelude.{◌≡◌, ℕ, ◌+◌, ◌*◌, ◌/◌, ◌<◌, ◌≤◌, Bool, true, false, if◌then◌else◌, max, ℤ, pos, List, [], ◌++◌, length, map, slice_index_or, All}
-use Rattle.std.specs.List.{flat_map}
+use Rattle.std.specs.Prelude.{◌≡◌, ℕ, ◌-◌, ◌*◌, ◌/◌, ◌<◌, ◌≤◌, Bool, true, false, not, if◌then◌else◌, max, ℤ, pos, List, [], length, map, slice_index_or, All}
 use Rattle.xs_bits.specs.Counts.{AreCounts}
-use Rattle.xs_lists.specs.Packing.{packed}
 use Rattle.xs_lists.specs.Spelling.{upto}
+use Rattle.xs_layout.specs.declared.Candidate.{Candidate}
 use Rattle.xs_layout.specs.declared.Quant.{Quant}
 use Rattle.xs_layout.specs.Geometry.{groups_of}
+use Rattle.xs_layout.specs.Weighting.{truncation_of}
+use Rattle.xs_params.specs.Rows.{Rows}
 use Rattle.xs_params.specs.declared.header.Header.{Header}
 use Rattle.xs_params.specs.Geometry.{bands_of, band_width_of}
 use Rattle.xs_signal.specs.Quantiser.{sent}
@@ -14,9 +15,7 @@ use Rattle.xs_spelling.specs.Data.{sign_bits}
 use Rattle.xs_spelling.specs.Sizes.{numbered}
 use Rattle.xs_spelling.specs.Written.{line_count_bits, line_data_bits, written_flag}
 use Rattle.xs_planes.specs.Numbers.{AreNumbers}
-use Rattle.xs_grammar.specs.Coded.{field_bytes}
-use Rattle.xs_grammar.specs.Packet.{packet_fields}
-use Rattle.xs_grammar.specs.Precinct.{Content, coded_line}
+use Rattle.xs_grammar.specs.Precinct.{Content, coded_line, is_first_line, weight_of}
 use Rattle.xs_rate.specs.Content.{planes_of}
 
 pub record Outgoing : Type 0 where
@@ -39,6 +38,8 @@ pub record IsOutgoing (o : Outgoing) : Type 0 where
   pub above : length o.above ≡ length o.counts
   pub values : length o.values ≡ 4 * length o.counts
   pub least : All (λ count. o.cut ≤ count) o.counts
+  pub range : AreCounts o.counts
+  pub above_range : AreCounts o.above
 
 -- the line by its counts, in a mode
 abbrev pub line_counted : Outgoing → ℕ → Line
@@ -64,12 +65,6 @@ own_data apart o = line_data_bits apart (numbered o.cut o.counts o.values)
 abbrev pub own_signs : Bool → Outgoing → List ℕ
 own_signs apart o = if apart then sign_bits (numbered o.cut o.counts o.values) else []
 
--- the bytes of a packet of such lines
-abbrev pub lines_out : Bool → List Outgoing → List ℕ
-lines_out apart lines =
-    field_bytes (packet_fields false false (length (packed (flat_map (own_data apart) lines))) (length (packed (flat_map own_counts lines))) (length (packed (flat_map (own_signs apart) lines))))
-    ++ (packed (flat_map own_flags lines) ++ (packed (flat_map own_counts lines) ++ (packed (flat_map (own_data apart) lines) ++ packed (flat_map (own_signs apart) lines))))
-
 -- Lines of a content
 
 -- the counts of a row of so many code groups, and its numbers, at a truncation
@@ -92,12 +87,27 @@ pub record IsSentAs (line : Line) (o : Outgoing) : Type 0 where
   pub signs : own_signs true o ≡ sign_bits line
   pub numbers : AreNumbers o.cut o.counts o.values
 
--- one line of each band has room, and a mode
-pub record AreOutgoing (h : Header) (mode : ℕ → ℕ) (lines : List Outgoing) : Type 0 where
-  pub count : length lines ≡ bands_of h
-  pub groups : (band : ℕ) → band < bands_of h → length (slice_index_or lines band no_line).counts ≡ groups_of (band_width_of h band)
-  pub modes : (band : ℕ) → band < bands_of h → (slice_index_or lines band no_line).mode ≡ mode band
+-- what is held of a line of rows at a candidate
+pub record IsCounted (h : Header) (rows : Rows) (candidate : Candidate) (band line : ℕ) (o : Outgoing) : Type 0 where
+  pub cut : o.cut ≡ truncation_of candidate.q candidate.r (weight_of h band)
+  pub counts : o.counts ≡ counts_cut o.cut (rows band line) (groups_of (band_width_of h band))
+  pub there : o.there ≡ not (is_first_line h band line)
+  pub above : o.there ≡ true → o.above ≡ counts_cut o.cut (rows band (line - 1)) (groups_of (band_width_of h band))
 
 -- its numbers have room in their planes
 abbrev pub HasNumbers : Outgoing → Type 0
 HasNumbers o = AreNumbers o.cut o.counts o.values
+
+-- a line of the same band, in the same mode
+pub record IsAlike (old new : Outgoing) : Type 0 where
+  pub mode : new.mode ≡ old.mode
+  pub groups : length new.counts ≡ length old.counts
+
+-- there is a line with room for each band
+pub record HaveRoom (h : Header) (lines : List Outgoing) : Type 0 where
+  pub count : length lines ≡ bands_of h
+  pub groups : (band : ℕ) → band < bands_of h → length (slice_index_or lines band no_line).counts ≡ groups_of (band_width_of h band)
+
+-- and it has the band's mode
+abbrev pub HaveModes : Header → (ℕ → ℕ) → List Outgoing → Type 0
+HaveModes h mode lines = (band : ℕ) → band < bands_of h → (slice_index_or lines band no_line).mode ≡ mode band

@@ -1,2 +1,10 @@
 //! A precinct as bytes.
+mod line;
+mod modes;
+mod packet;
+mod precinct;
 mod row;
+mod slice;
+
+pub use precinct::{FilledPrecinct, Scratch, write_filled_precinct, write_precinct};
+pub use slice::SliceAt;

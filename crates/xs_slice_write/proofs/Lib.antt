@@ -1,0 +1,3 @@
+pub mod Found
+pub mod Sliced
+pub mod Pieces

@@ -1,0 +1,72 @@
+//! The candidate of a slice.
+ghost use Rattle.std.specs.Prelude.{◌≡◌, ◌<◌, ◌≤◌, length, find, All, List};
+ghost use Rattle.xs_layout.specs.declared.Weight.{Weight};
+ghost use Rattle.xs_params.specs.Geometry.{bands_of, coding_header, slice_count};
+ghost use Rattle.xs_geometry.specs.SliceLines.{BandLines, rows_held};
+ghost use Rattle.xs_rate.specs.Choice.{choice_of};
+ghost use Rattle.xs_rate.specs.Chosen.{candidates, fits_at};
+ghost use Rattle.xs_sizes.specs.Measured.{AreKept, IsCoding, header_in};
+
+use xs_faults::Budget;
+use xs_geometry::Geometry;
+use xs_layout::{Candidate, Quant};
+use xs_params::Weights;
+use xs_sizes::{Coding, SliceCounts, cuts_of, slice_fits, slice_size};
+use xs_weights::{candidate, candidate_count, coarsest};
+
+/// No truncation.
+const NONE: u8 = 255;
+
+/// The first candidate at which the slice is within its share and each length has room in its field; or, exactly where the
+/// slice is over its share at the coarsest, the bytes that it then has. At the coarsest each length has room. Takes no memory.
+pub fn choose(
+    geometry: &Geometry,
+    slice: u32,
+    weights: &Weights,
+    signs_apart: bool,
+    quant: Quant,
+    counts: &SliceCounts,
+    share: u32,
+) -> Result<Candidate, Budget>
+    requires slice { slice < slice_count geometry.now }
+    requires kept { (bands : List BandLines) × AreKept geometry.now counts.now signs_apart slice bands }
+    requires weights { length weights.now ≡ bands_of geometry.now }
+    requires gains { All (λ (weight : Weight). weight.gain ≤ 15) weights.now }
+    ensures { (bands : List BandLines) → AreKept geometry.now counts.now signs_apart slice bands → result ≡ choice_of (coding_header geometry.now weights.now signs_apart quant) (rows_held bands) share slice }
+{
+    let coding = Coding {
+        geometry,
+        counts,
+        signs_apart,
+        quant,
+    };
+    let _bands = geometry.bands();
+    let last = coarsest(weights);
+    let share_bytes = u64::from(share);
+    let size = slice_size(&coding, slice, &cuts_of(weights, last));
+    if size > share_bytes {
+        return Err(Budget { slice, size, share });
+    }
+    Ok(first_fitting(&coding, slice, weights, share_bytes).unwrap_or(last))
+}
+
+// The first candidate at which the slice fits. One with the truncations of the last one is not measured again.
+fn first_fitting(coding: &Coding, slice: u32, weights: &Weights, share: u64) -> Option<Candidate>
+    requires slice { slice < slice_count coding.now.geometry.now }
+    requires coding { (bands : List BandLines) × IsCoding slice bands coding.now }
+    requires weights { length weights.now ≡ bands_of coding.now.geometry.now }
+    requires few { length weights.now ≤ 30 }
+    requires gains { All (λ (weight : Weight). weight.gain ≤ 15) weights.now }
+    ensures { (bands : List BandLines) → IsCoding slice bands coding.now → result ≡ find (fits_at (header_in coding.now weights.now) (rows_held bands) share slice) (candidates (header_in coding.now weights.now)) }
+{
+    let mut seen = [NONE; 30];
+    'list: for number in 0..candidate_count(weights) {
+        let next = candidate(weights, number).unwrap();
+        let cuts = cuts_of(weights, next);
+        if cuts != seen && slice_fits(coding, slice, &cuts, share) {
+            return Some(next);
+        }
+        seen = cuts;
+    }
+    None
+}
