@@ -2,7 +2,8 @@ ghost use Rattle.std.specs.Prelude.{◌^◌, ◌<◌, ◌≤◌, length};
 
 use std::alloc::Global;
 use std::test::Fail;
-use xs_markers::{HeadFault, HeadField, Header, read_header, write_header};
+use xs_io::{Memory, Octets};
+use xs_markers::{HeadFault, HeadField, Header, read_header, skip_boxes, write_header};
 use xs_params::{Format, Quant, Shape, Weight};
 
 // The header of a grey picture of 32 by 4 samples, in a codestream of 215 bytes: the start marker; empty capabilities;
@@ -301,23 +302,12 @@ fn cut_headers_are_refused(rt: HostRuntime) {
 }
 
 #[test]
-fn other_segments_are_refused(rt: HostRuntime) {
-    // Each change, the code that it makes, and its place.
-    let markers = [
-        ((0, 0xfe), 0xfe10, 0),
-        ((3, 0x15), 0xff15, 2),
-        ((7, 0x13), 0xff13, 6),
-        ((35, 0x14), 0xff14, 34),
-        ((41, 0x13), 0xff13, 40),
-        ((49, 0x11), 0xff11, 48),
-    ];
-    for (change, code, place) in markers {
-        assert!(rt; refusal_of(rt.alloc(), &[change]) == Some(HeadFault::Marker { code, place }));
-    }
+fn other_lengths_are_refused(rt: HostRuntime) {
     // Each change, the code of the segment, and the length that the change makes.
     let lengths = [
-        ((5, 3), 0xff50, 3),
+        ((5, 1), 0xff50, 1),
         ((9, 27), 0xff12, 27),
+        ((9, 25), 0xff12, 25),
         ((37, 5), 0xff13, 5),
         ((43, 7), 0xff14, 7),
     ];
@@ -326,16 +316,127 @@ fn other_segments_are_refused(rt: HostRuntime) {
     }
 }
 
+// Segments of the header of ten bands, and others.
+const SOC: &[u8] = &[0xff, 0x10];
+
+const SLH: &[u8] = &[0xff, 0x20];
+
+const EOC: &[u8] = &[0xff, 0x11];
+
+const CAP: &[u8] = &[0xff, 0x50, 0, 4, 0xab, 0xcd];
+
+const COM: &[u8] = &[0xff, 0x15, 0, 4, 0, 1];
+
+const CRG: &[u8] = &[0xff, 0x19, 0, 2];
+
+const NLT: &[u8] = &[0xff, 0x16, 0, 4, 0, 0];
+
+const PIH: &[u8] = &[
+    0xff, 0x12, 0, 0x1a, 0, 0, 0, 0xe8, 0, 0, 0, 0, 0, 0x20, 0, 4, 0, 0, 0, 4, 1, 4, 8, 0x14, 0x84,
+    0, 0x52, 0,
+];
+
+const CDT: &[u8] = &[0xff, 0x13, 0, 4, 8, 0x11];
+
+const WGT: &[u8] = &[
+    0xff, 0x14, 0, 0x16, 4, 0, 3, 1, 3, 2, 2, 3, 11, 10, 13, 12, 15, 14, 0, 7, 0, 8, 0, 9,
+];
+
+// What is refused of segments, which have at most 200 bytes.
+fn segments_fault(alloc: Global, segments: &[&[u8]]) -> Result<Option<HeadFault>, Memory> {
+    let mut bytes = Octets::new(alloc);
+    for segment in segments {
+        bytes.extend(segment)?;
+    }
+    if bytes.len() > 200 {
+        return Ok(None);
+    }
+    Ok(fault_of(alloc, bytes.as_slice()))
+}
+
+#[test]
+fn segments_may_stand_in_any_order(rt: HostRuntime) -> Result<(), Fail> {
+    let alloc = rt.alloc();
+    assert!(rt; segments_fault(alloc, &[SOC, CAP, PIH, CDT, WGT])?.is_none());
+    assert!(rt; segments_fault(alloc, &[SOC, COM, CAP, PIH, CDT, WGT, SLH])?.is_none());
+    assert!(rt; segments_fault(alloc, &[SOC, PIH, WGT, COM, CDT, CRG, CAP, COM])?.is_none());
+    Ok(())
+}
+
+#[test]
+fn other_segments_are_refused(rt: HostRuntime) -> Result<(), Fail> {
+    let alloc = rt.alloc();
+    let unsupported = HeadFault::Segment {
+        code: 0xff16,
+        place: 36,
+    };
+    assert!(rt; segments_fault(alloc, &[SOC, CAP, PIH, NLT, CDT, WGT])? == Some(unsupported));
+    let end = HeadFault::Marker {
+        code: 0xff11,
+        place: 60,
+    };
+    assert!(rt; segments_fault(alloc, &[SOC, PIH, CDT, WGT, EOC])? == Some(end));
+    let start = HeadFault::Marker {
+        code: 0xff10,
+        place: 2,
+    };
+    assert!(rt; segments_fault(alloc, &[SOC, SOC, PIH, CDT, WGT])? == Some(start));
+    let other = HeadFault::Marker {
+        code: 0xfe10,
+        place: 0,
+    };
+    assert!(rt; refusal_of(alloc, &[(0, 0xfe)]) == Some(other));
+    Ok(())
+}
+
+#[test]
+fn segments_stand_once(rt: HostRuntime) -> Result<(), Fail> {
+    let alloc = rt.alloc();
+    let picture = HeadFault::Twice { code: 0xff12 };
+    assert!(rt; segments_fault(alloc, &[SOC, CAP, PIH, PIH, CDT, WGT])? == Some(picture));
+    // The length of the second table is wrong too.
+    let components = HeadFault::Twice { code: 0xff13 };
+    assert!(rt; segments_fault(alloc, &[SOC, PIH, CDT, &[0xff, 0x13, 0, 9]])? == Some(components));
+    let weights = HeadFault::Twice { code: 0xff14 };
+    assert!(rt; segments_fault(alloc, &[SOC, PIH, WGT, WGT])? == Some(weights));
+    Ok(())
+}
+
+#[test]
+fn no_segment_may_lack(rt: HostRuntime) -> Result<(), Fail> {
+    let alloc = rt.alloc();
+    let picture = HeadFault::Absent { code: 0xff12 };
+    assert!(rt; segments_fault(alloc, &[SOC, SLH])? == Some(picture));
+    // The length of the table is wrong too.
+    assert!(rt; segments_fault(alloc, &[SOC, &[0xff, 0x13, 0, 9]])? == Some(picture));
+    let components = HeadFault::Absent { code: 0xff13 };
+    assert!(rt; segments_fault(alloc, &[SOC, PIH, WGT, SLH])? == Some(components));
+    let weights = HeadFault::Absent { code: 0xff14 };
+    assert!(rt; segments_fault(alloc, &[SOC, CAP, PIH, CDT, SLH])? == Some(weights));
+    // At the end of the bytes the header is cut.
+    let cut = HeadFault::Truncated { place: 36 };
+    assert!(rt; segments_fault(alloc, &[SOC, PIH, CDT])? == Some(cut));
+    let body = HeadFault::Truncated { place: 39 };
+    assert!(rt;
+        segments_fault(
+            alloc,
+            &[SOC, PIH, &[0xff, 0x13, 0, 4, 8, 0x11, 0xff, 0x14, 0]]
+        )? == Some(body)
+    );
+    Ok(())
+}
+
 #[test]
 fn other_values_are_refused(rt: HostRuntime) {
     // Each change, the field, and the value that is refused.
     let values = [
+        ((19, 16), HeadField::Wf, 16),
         ((19, 31), HeadField::Wf, 31),
         ((18, 0x20), HeadField::Wf, 8224),
         ((21, 3), HeadField::Hf, 3),
         ((23, 1), HeadField::Cw, 1),
         ((25, 0), HeadField::Hsl, 0),
-        ((26, 3), HeadField::Nc, 3),
+        ((26, 2), HeadField::Nc, 2),
         ((27, 5), HeadField::Ng, 5),
         ((28, 4), HeadField::Ss, 4),
         ((29, 19), HeadField::Bw, 19),
@@ -349,10 +450,10 @@ fn other_values_are_refused(rt: HostRuntime) {
         ((32, 0x60), HeadField::Nlx, 6),
         ((32, 0x53), HeadField::Nly, 3),
         ((32, 0x12), HeadField::Nly, 2),
-        ((33, 0x10), HeadField::Qpih, 1),
-        ((33, 0x04), HeadField::Fs, 1),
-        ((33, 0x01), HeadField::Rm, 1),
-        ((38, 10), HeadField::Bc, 10),
+        ((33, 0x20), HeadField::Qpih, 2),
+        ((33, 0x08), HeadField::Fs, 2),
+        ((33, 0x02), HeadField::Rm, 2),
+        ((38, 9), HeadField::Bc, 9),
         ((39, 0x21), HeadField::Sx, 2),
         ((39, 0x12), HeadField::Sy, 2),
     ];
@@ -375,4 +476,85 @@ fn other_sizes_are_refused(rt: HostRuntime) {
         value: 2052,
     };
     assert!(rt; refusal_of(rt.alloc(), &[(20, 8), (25, 1)]) == Some(slices));
+}
+
+// The header of a picture of 64 by 4 samples and three components of 10 bits, of which the second and third have half the
+// columns. It is split once across and has six bands, the uniform quantiser, signs apart and the second run mode.
+const HALVED: [u8; 56] = [
+    0xff, 0x10, //
+    0xff, 0x12, 0, 0x1a, 0, 0, 0, 0, 0, 0, 0, 0, 0, 0x40, 0, 4, 0, 0, 0, 4, 3, 4, 8, 0x14, 0x84, 0,
+    0x10, 0x15, //
+    0xff, 0x13, 0, 8, 10, 0x11, 10, 0x21, 10, 0x21, //
+    0xff, 0x14, 0, 14, 0, 0, 0, 1, 0, 2, 0, 3, 0, 4, 0, 5,
+];
+
+// It with some bytes changed, each given with its place.
+fn halved_changed(changes: &[(usize, u8)]) -> [u8; 56] {
+    let mut bytes = HALVED;
+    change(&mut bytes, changes);
+    bytes
+}
+
+fn halved_refusal_of(alloc: Global, changes: &[(usize, u8)]) -> Option<HeadFault> {
+    fault_of(alloc, &halved_changed(changes))
+}
+
+#[test]
+fn headers_of_components_are_read(rt: HostRuntime) -> Result<(), Fail> {
+    let (header, size) = read_header(rt.alloc(), &HALVED)?;
+    let shape = Shape {
+        width: 64,
+        height: 4,
+        format: Format::C422,
+        depth: 10,
+    };
+    assert!(rt; size == 56 && header.shape == shape && !header.colour);
+    assert!(rt; header.quant == Quant::Uniform && header.signs_apart && header.run_mode == 1);
+    assert!(rt; header.weights.as_slice().len() == 6);
+    // Three components of one size, with the colour transform.
+    let (header, _) = read_header(
+        rt.alloc(),
+        &halved_changed(&[(27, 1), (37, 0x11), (39, 0x11)]),
+    )?;
+    assert!(rt; header.shape.format == Format::C444 && header.colour);
+    Ok(())
+}
+
+#[test]
+fn other_components_are_refused(rt: HostRuntime) {
+    // Each change, the field, and the value that is refused.
+    let values = [
+        ((34, 11), HeadField::Bc, 11),
+        ((36, 8), HeadField::Bc, 8),
+        ((35, 0x21), HeadField::Sx, 2),
+        ((37, 0x31), HeadField::Sx, 3),
+        ((39, 0x11), HeadField::Sx, 1),
+        ((39, 0x22), HeadField::Sy, 2),
+        // The colour transform, and components of two sizes.
+        ((27, 1), HeadField::Sx, 2),
+        ((27, 2), HeadField::Cpih, 2),
+        // 32 columns of the narrowest component, and then 16, which are split five times.
+        ((15, 0x20), HeadField::Narrow, 16),
+    ];
+    for (change, field, value) in values {
+        let fault = HeadFault::Unsupported { field, value };
+        assert!(rt; halved_refusal_of(rt.alloc(), &[change, (28, 0x50)]) == Some(fault));
+    }
+}
+
+#[test]
+fn boxes_are_skipped(rt: HostRuntime) {
+    assert!(rt; skip_boxes(&[0xff, 0x10]) == Ok(0));
+    assert!(rt; skip_boxes(&[0, 0, 0, 12, 1, 2, 3, 4, 5, 6, 7, 8, 0xff, 0x10]) == Ok(12));
+    assert!(rt;
+        skip_boxes(&[0, 0, 0, 8, 1, 2, 3, 4, 0, 0, 0, 8, 5, 6, 7, 8, 0xff, 0x10]) == Ok(16)
+    );
+    let short = HeadFault::BoxLength {
+        length: 7,
+        place: 8,
+    };
+    assert!(rt; skip_boxes(&[0, 0, 0, 8, 1, 2, 3, 4, 0, 0, 0, 7]) == Err(short));
+    assert!(rt; skip_boxes(&[0, 0, 0, 12, 1, 2, 3, 4]) == Err(HeadFault::Truncated { place: 8 }));
+    assert!(rt; skip_boxes(&[0, 0, 0]) == Err(HeadFault::Truncated { place: 3 }));
+    assert!(rt; skip_boxes(&[]) == Err(HeadFault::Truncated { place: 0 }));
 }

@@ -1,4 +1,4 @@
-//! Tests of the codec: headers, lines, pictures that are decoded, and sizes at the limits.
+//! Tests of the codec: headers, lines, pictures and codestreams that are decoded, and sizes at the limits.
 #![tactic(auto)]
 
 #[cfg(test)]
@@ -7,3 +7,5 @@ mod decoding;
 mod headers;
 #[cfg(test)]
 mod limits;
+#[cfg(test)]
+mod streams;

@@ -107,14 +107,14 @@ kept_low s level b p some low = by_side (nat_lt level s.down)
 
 -- the bound after so many levels
 abbrev reach : ℕ → ℕ
-reach zero = 2 ^ 20
+reach zero = 2 ^ 22
 reach (suc level) = 4 * (4 * reach level)
 
 reach_least : (level : ℕ) → 4 ≤ reach level
 reach_least zero = omega arith
 reach_least (suc level) = let before = reach_least level in omega (arith, before)
 
-reach_most : (level : ℕ) → level ≤ 5 → reach level ≤ 2 ^ 40
+reach_most : (level : ℕ) → level ≤ 5 → reach level ≤ 2 ^ 42
 reach_most zero few = omega arith
 reach_most (suc zero) few = omega arith
 reach_most (suc (suc zero)) few = omega arith
@@ -123,7 +123,7 @@ reach_most (suc (suc (suc (suc zero)))) few = omega arith
 reach_most (suc (suc (suc (suc (suc zero))))) few = omega arith
 reach_most (suc (suc (suc (suc (suc (suc level)))))) few = absurd (omega (arith, few))
 
-part_low : (s : Split) (p : ℕ → ℕ → ℤ) → IsLow (2 ^ 20) p → (level : ℕ) → IsLow (reach level) (low_part s p level)
+part_low : (s : Split) (p : ℕ → ℕ → ℤ) → IsLow (2 ^ 22) p → (level : ℕ) → IsLow (reach level) (low_part s p level)
 part_low s p low zero row column = low row column
 part_low s p low (suc level) row column =
     let kept = kept_low s level (reach level) (low_part s p level) (reach_least level) (part_low s p low level) in
@@ -135,7 +135,7 @@ record AreSmallBands (b : Bands) : Type 0 where
   lh : (level : ℕ) → level ≤ 5 → IsLow (2 ^ 50) (b.lh level)
   hh : (level : ℕ) → level ≤ 5 → IsLow (2 ^ 50) (b.hh level)
 
-bands_small : (s : Split) (p : ℕ → ℕ → ℤ) → IsLow (2 ^ 20) p → AreSmallBands (bands_of_plane s p)
+bands_small : (s : Split) (p : ℕ → ℕ → ℤ) → IsLow (2 ^ 22) p → AreSmallBands (bands_of_plane s p)
 bands_small s p low = record {
   hl = λ level few row column.
       let q = columns_kept s (level - 1) (low_part s p (level - 1)) in
@@ -161,7 +161,7 @@ deep_small b small level (suc (suc zero)) less few = small.hh (suc level) (omega
 deep_small b small level (suc (suc (suc side))) less few = absurd (omega (arith, few))
 
 -- the bands of a plane of small numbers are small
-pub types_small : (s : Split) (p : ℕ → ℕ → ℤ) → s.down ≤ s.across → s.across ≤ 5 → IsLow (2 ^ 20) p → (number : ℕ) → number < band_count s → IsLow (2 ^ 50) (band_plane (bands_of_plane s p) (type_at s number))
+pub types_small : (s : Split) (p : ℕ → ℕ → ℤ) → s.down ≤ s.across → s.across ≤ 5 → IsLow (2 ^ 22) p → (number : ℕ) → number < band_count s → IsLow (2 ^ 50) (band_plane (bands_of_plane s p) (type_at s number))
 types_small s p deep few low =
     each_type s (λ type. IsLow (2 ^ 50) (band_plane (bands_of_plane s p) type)) deep
     (low_more (reach s.across) (2 ^ 50) (low_part s p s.across) (omega (arith, reach_most s.across few)) (part_low s p low s.across))

@@ -1,5 +1,5 @@
 -- Each line of a band is one of the lines of a slice.
-use Rattle.std.proofs.Common.{◌≡◌, ℕ, zero, suc, ◌+◌, ◌-◌, ◌*◌, ◌/◌, ◌%◌, ◌^◌, ◌<◌, ◌≤◌, [], length, get_or, ap, arith, inl, inr, Bool, true, false}
+use Rattle.std.proofs.Common.{◌≡◌, ℕ, zero, suc, ◌+◌, ◌-◌, ◌*◌, ◌/◌, ◌%◌, ◌^◌, ◌<◌, ◌≤◌, List, [], length, get_or, refl, ap, arith, inl, inr, Bool, true, false}
 use Rattle.std.proofs.Math.Nat.{mul-le-mul_right, mul_assoc, le-div_iff_mul-le}
 use Rattle.std.proofs.lemmas.Bool.{cases_lt}
 use Rattle.std.proofs.lemmas.Nat.{pow_pos}
@@ -9,7 +9,7 @@ use Rattle.xs_layout.specs.Geometry.{BandType, band_types, components_of, side_s
 use Rattle.xs_params.specs.declared.header.Header.{Header}
 use Rattle.xs_params.specs.Geometry.{bands_of, band_type_of, band_height_of, band_width_of, precinct_count, precinct_lines, slice_count}
 use Rattle.xs_params.specs.Accepted.{IsAccepted}
-use Rattle.xs_geometry.specs.SliceLines.{HasLine, row_at, slice_height}
+use Rattle.xs_geometry.specs.SliceLines.{AreLinesOf, BandLines, HasLine, row_at, slice_height}
 use Rattle.xs_geometry.specs.Sides.{deep_side}
 use Rattle.xs_geometry.proofs.Types.{wide_type, deep_type}
 use Rattle.xs_picture.specs.Coefs.{Coefs, AreCoefs}
@@ -92,21 +92,26 @@ slice_there h band line accepted inside less =
     let grouped : slice_count h * h.hsl * precinct_lines h band ≡ slice_count h * slice_height h band = mul_assoc (slice_count h) h.hsl (precinct_lines h band) in
     quotient_below line (slice_height h band) (slice_count h) (lines_some h band accepted) (omega (arith, less, height_most h band accepted inside, covers, grouped))
 
--- and that slice has it
+-- and the rows of that slice have it
+pub line_in_slice : (h : Header) (slice : ℕ) (rows : List BandLines) (band line : ℕ) → IsAccepted h → AreLinesOf h slice rows → band < bands_of h → line < band_height_of h band
+    → line / slice_height h band ≡ slice → HasLine rows band line
+line_in_slice h slice rows band line accepted lines inside less here =
+    let some = lines_some h band accepted in
+    let from : line / slice_height h band * slice_height h band ≤ line = omega arith in
+    let to : line < (line / slice_height h band + 1) * slice_height h band = omega (arith, some) in
+    let first : slice * slice_height h band ≤ line = rw here at from in
+    let end : line < (slice + 1) * slice_height h band = rw here at to in
+    record {
+      band_there = omega (arith, inside, lines.count);
+      from = omega (arith, lines.first band inside, first);
+      line_there = omega (arith, lines.first band inside, lines.lines band inside, end, less);
+    }
+
 pub line_there : (c : Coefs) (band line : ℕ) → AreCoefs c → band < bands_of c.header → line < band_height_of c.header band
     → HasLine (get_or c.slices (line / slice_height c.header band) []) band line
 line_there c band line are inside less =
-    let h = c.header in
-    let slice = line / slice_height h band in
-    let lines = are.lines slice (slice_there h band line are.accepted inside less) in
-    let some = lines_some h band are.accepted in
-    let from : slice * slice_height h band ≤ line = omega arith in
-    let to : line < (slice + 1) * slice_height h band = omega (arith, some) in
-    record {
-      band_there = omega (arith, inside, lines.count);
-      from = omega (arith, lines.first band inside, from);
-      line_there = omega (arith, lines.first band inside, lines.lines band inside, to, less);
-    }
+    let slice = line / slice_height c.header band in
+    line_in_slice c.header slice (get_or c.slices slice []) band line are.accepted (are.lines slice (slice_there c.header band line are.accepted inside less)) inside less refl
 
 -- of the band's width
 pub row_width : (c : Coefs) (band line : ℕ) → AreCoefs c → band < bands_of c.header → line < band_height_of c.header band

@@ -12,7 +12,7 @@ use Rattle.xs_wave.specs.Planes.{plane_of, HasSize}
 use Rattle.xs_decoding.specs.Decoded.{decoded_sample}
 use Rattle.xs_decoding.proofs.Within.{full_width}
 use Rattle.xs_picture.specs.Coefs.{Coefs, AreCoefs, rows_of_slices}
-use Rattle.xs_picture.specs.Decoding.{joined_planes, turned, turned_plane, colour_bound, HoldsPlane, IsComponentPlane, AreColours, HasSamples, AreDecoded}
+use Rattle.xs_picture.specs.Decoding.{joined_planes, turned, inverse_rct_plane, colour_bound, HoldsPlane, IsComponentPlane, AreColours, HasSamples, AreDecoded}
 
 -- ---- without colour
 
@@ -61,7 +61,7 @@ colours_are h p y u v full ys us vs = record {
 }
 
 turned_same : (h : Header) (p : ℕ → ℕ → ℕ → ℤ) (y u v plane : List (List ℤ)) (component row column : ℕ) → h.shape.format ≡ C444 → IsComponentPlane h 0 colour_bound (p 0) y
-    → IsComponentPlane h 1 colour_bound (p 1) u → IsComponentPlane h 2 colour_bound (p 2) v → HoldsPlane h.shape.width h.shape.height (2 ^ 50) (turned_plane component y u v) plane
+    → IsComponentPlane h 1 colour_bound (p 1) u → IsComponentPlane h 2 colour_bound (p 2) v → HoldsPlane h.shape.width h.shape.height (2 ^ 50) (inverse_rct_plane component y u v) plane
     → row < h.shape.height → column < h.shape.width → plane_of plane row column ≡ uncoloured p component row column
 turned_same h p y u v plane component row column full ys us vs holds above within =
     holds.same row column above within
@@ -72,7 +72,7 @@ turned_same h p y u v plane component row column full ys us vs holds above withi
 -- the samples of red, green or blue
 pub colour_decoded : (c : Coefs) (y u v plane : List (List ℤ)) (picture : Picture) (component : ℕ) → AreCoefs c → c.header.colour ≡ true
     → IsComponentPlane c.header 0 colour_bound (joined_planes c 0) y → IsComponentPlane c.header 1 colour_bound (joined_planes c 1) u → IsComponentPlane c.header 2 colour_bound (joined_planes c 2) v
-    → HoldsPlane c.header.shape.width c.header.shape.height (2 ^ 50) (turned_plane component y u v) plane → HasSamples c.header picture component (plane_of plane)
+    → HoldsPlane c.header.shape.width c.header.shape.height (2 ^ 50) (inverse_rct_plane component y u v) plane → HasSamples c.header picture component (plane_of plane)
     → (row column : ℕ) → IsPlace c.header.shape component row column → sample_at picture component row column ≡ decoded_sample c.header (rows_of_slices c.header c.slices) component row column
 colour_decoded c y u v plane picture component are coloured ys us vs holds samples row column place =
     let full = are.accepted.colour coloured in

@@ -1,153 +1,237 @@
--- The rows of a precinct's lines are folded from the planes of the bands.
-use Rattle.std.proofs.Common.{◌≡◌, ℕ, ◌+◌, ◌-◌, ◌*◌, ◌<◌, ◌≤◌, ℤ, pos, List, [], ◌++◌, length, take, drop, get_or, refl, sym, ap, subst, ◌∙◌, arith, inl, inr, length-set, get_or-set_other, Bool, true, false, Vec}
-use Rattle.std.specs.Prelude.{nat_lt, if◌then◌else◌}
-use Rattle.std.specs.Vec.{with_items}
-use Rattle.std.specs.declared.alloc.Global.{Global}
-use Rattle.std.proofs.Math.ListN.{set}
-use Rattle.std.proofs.Math.Seq.{take-append_seam}
-use Rattle.std.proofs.lemmas.Bool.{cases_eq, ltb-true, ltb-false}
-use Rattle.std.proofs.lemmas.Grind.{get_or-set_at}
-use Rattle.std.proofs.lemmas.List.{map-set, get_or-map, length-map}
-use Rattle.xs_layout.specs.declared.Format.TheVariants.{Mono}
+-- The rows of a slice are folded from the planes of the bands.
+use Rattle.std.proofs.Common.{◌≡◌, ◌≢◌, ◌↔◌, ℕ, ◌+◌, ◌-◌, ◌*◌, ◌/◌, ◌%◌, ◌^◌, ◌<◌, ◌≤◌, ℤ, pos, List, [], length, map, get_or, refl, sym, ap, subst, ◌∙◌, arith, inl, inr, Bool, true, false}
+use Rattle.std.specs.Prelude.{◌⊎◌, nat_lt, if◌then◌else◌, unsigned_abs}
+use Rattle.std.proofs.lemmas.Bool.{cases_eq, cases_lt, ltb-true, ltb-false}
+use Rattle.std.proofs.lemmas.List.{get_or_past}
+use Rattle.std.proofs.lemmas.List.FromFn.{length-map-range_with_len, get_or-map-range_with_len}
+use Rattle.xs_lists.specs.Spelling.{upto}
+use Rattle.xs_layout.specs.declared.Format.{Format}
+use Rattle.xs_layout.specs.declared.Format.TheVariants.{Mono, C422, C444}
 use Rattle.xs_layout.specs.Geometry.{components_of}
 use Rattle.xs_params.specs.declared.header.Header.{Header}
+use Rattle.xs_params.specs.Accepted.{IsAccepted}
 use Rattle.xs_params.specs.Picture.{Picture, sample_at}
+use Rattle.xs_params.specs.Geometry.{bands_of, band_component, band_type_of, band_width_of, band_height_of}
 use Rattle.xs_signal.specs.Fold.{fold}
 use Rattle.xs_signal.specs.Lines.{entries_of}
 use Rattle.xs_signal.specs.Picture.{analysed, coefficients_of}
 use Rattle.xs_signal.specs.Wavelet.{Bands, band_plane}
-use Rattle.xs_params.specs.Geometry.{bands_of, band_component, band_type_of, band_width_of, band_height_of, lines_of, geometry_of}
-use Rattle.xs_geometry.specs.Lines.{IsLineOf}
+use Rattle.xs_signal.proofs.Magnitudes.{fold_fits}
+use Rattle.xs_geometry.specs.SliceLines.{BandLines, AreLinesOf, HasLine, ShowRows, lines_at, row_at, rows_held}
+use Rattle.xs_geometry.specs.Laws.{IsWritten}
+use Rattle.xs_geometry.specs.Written.{with_row}
+use Rattle.xs_geometry.proofs.WrittenRows.{row_written, lines_kept}
+use Rattle.xs_geometry.proofs.PacketLines.{slice_has_lines}
 use Rattle.xs_rate.specs.Coefficients.{rows_of_picture, signal_of}
-use Rattle.xs_wave.specs.Planes.{HasSize}
-use Rattle.xs_wave.specs.Bands.{band_count, type_at}
+use Rattle.xs_rate.specs.Laws.{AreSmall}
+use Rattle.xs_wave.specs.Planes.{plane_of, HasSize}
+use Rattle.xs_wave.specs.Bands.{band_count, columns_in, rows_in, type_at}
 use Rattle.xs_wave.proofs.Types.{all_counted}
 use Rattle.xs_decoding.specs.Decoded.{band_number}
-use Rattle.xs_decoding.proofs.Numbers.{component_of_number, type_of_number, width_of_number, height_of_number}
+use Rattle.xs_decoding.proofs.Numbers.{type_of_number, width_of_number, height_of_number}
 use Rattle.xs_picture.specs.Decoding.{component_split}
-use Rattle.xs_picture.specs.PrecinctRows.{HasRows, ShowPrecinct, contents, row_in}
-use Rattle.xs_picture.specs.Analysed.{AreBandsOf, AreGreyPlanes, IsFolded, band_of, folded_rows}
-use Rattle.xs_picture.proofs.Analysed.{grey_there}
+use Rattle.xs_picture.specs.Analysed.{AreBandsOf, ArePicturePlanes, IsBandFolded, folded_row, folded_rows, plane_of_band}
+use Rattle.xs_picture.specs.Local.{SameInSlice}
 use Rattle.xs_picture.proofs.Filled.{band_sized, each_plane}
 
--- ---- the bands of a grey picture
+-- ---- bands
 
-grey_number : (h : Header) (band : ℕ) → h.shape.format ≡ Mono → band_number h band 0 ≡ band
-grey_number h band mono = let one : band * 1 + 0 ≡ band = omega arith in ap (λ f. band * components_of f + 0) mono ∙ one
+-- a band is that of its type and its component
+component_below : (f : Format) (band : ℕ) → band % components_of f < components_of f
+component_below Mono band = omega arith
+component_below C422 band = omega arith
+component_below C444 band = omega arith
 
--- there is a plane for each
-pub grey_count : (h : Header) → h.shape.format ≡ Mono → h.nly ≤ h.nlx → bands_of h ≡ band_count (component_split h 0)
-grey_count h mono deep =
-    let one : (2 * h.nly + h.nlx + 1) * 1 ≡ 2 * h.nly + h.nlx + 1 = omega arith in
-    ap (λ f. (2 * h.nly + h.nlx + 1) * components_of f) mono ∙ one ∙ sym (all_counted (component_split h 0) deep)
+joined_number : (f : Format) (band : ℕ) → band / components_of f * components_of f + band % components_of f ≡ band
+joined_number Mono band = omega arith
+joined_number C422 band = omega arith
+joined_number C444 band = omega arith
 
--- and it has the size of its band
-pub grey_sized : (h : Header) (planes : List (List (List ℤ))) (band : ℕ) → h.shape.format ≡ Mono → h.nly ≤ h.nlx → AreGreyPlanes h planes → band < bands_of h
-    → HasSize (band_width_of h band) (band_height_of h band) (get_or planes band [])
-grey_sized h planes band mono deep are inside =
-    subst (λ n. HasSize (band_width_of h n) (band_height_of h n) (get_or planes band [])) (grey_number h band mono)
-    (band_sized h band 0 planes (grey_there h mono) (are.sized.sizes band (omega (arith, inside, grey_count h mono deep))))
+type_below : (f : Format) (band types : ℕ) → band < types * components_of f → band / components_of f < types
+type_below Mono band types inside = omega (arith, inside)
+type_below C422 band types inside = omega (arith, inside)
+type_below C444 band types inside = omega (arith, inside)
 
--- ---- rows that are written
+pub component_there : (h : Header) (band : ℕ) → band_component h band < components_of h.shape.format
+component_there h band = component_below h.shape.format band
 
--- what a lent list leaves, where it keeps its length
-pub kept : {A : Type 0} (n : ℕ) (now old : List A) → length now ≡ n → take n (now ++ drop (length now) old) ≡ now
-kept n now old same = ap (λ k. take k (now ++ drop (length now) old)) (sym same) ∙ take-append_seam now (drop (length now) old)
+number_is : (h : Header) (band : ℕ) → band_number h (band / components_of h.shape.format) (band_component h band) ≡ band
+number_is h band = joined_number h.shape.format band
 
-pub contents_at : (bands : List (Vec (List ℤ) Global)) (band : ℕ) (d : Vec (List ℤ) Global) → band < length (contents bands) → get_or (contents bands) band [] ≡ (get_or bands band d).items
-contents_at bands band d inside = get_or-map (λ rows. rows.items) bands band d [] (omega (arith, inside, length-map bands (λ rows. rows.items)))
+number_there : (h : Header) (band : ℕ) → h.nly ≤ h.nlx → band < bands_of h → band / components_of h.shape.format < band_count (component_split h (band_component h band))
+number_there h band deep inside =
+    let types = type_below h.shape.format band (2 * h.nly + h.nlx + 1) inside in
+    omega (arith, types, all_counted (component_split h (band_component h band)) deep)
 
-pub contents_set : (bands : List (Vec (List ℤ) Global)) (band : ℕ) (v : Vec (List ℤ) Global) (rows : List (List ℤ)) → length rows ≡ length v.items
-    → contents (set bands band (with_items v rows)) ≡ set (contents bands) band rows
-contents_set bands band v rows same = map-set (λ x. x.items) bands band (with_items v rows) ∙ ap (set (contents bands) band) (kept v.len rows v.items (same ∙ sym v.ok.0))
+pub plane_there : (h : Header) (bands : List (List (List (List ℤ)))) (band : ℕ) → h.nly ≤ h.nlx → band < bands_of h → ArePicturePlanes h bands
+    → band / components_of h.shape.format < length (get_or bands (band_component h band) [])
+plane_there h bands band deep inside are = omega (arith, number_there h band deep inside, (are.each (band_component h band) (component_there h band)).sized.as_many)
 
--- a band's row is not longer than its row
-pub row_room : (h : Header) (planes : List (List (List ℤ))) (bands : List (List (List ℤ))) (band number line : ℕ) → h.shape.format ≡ Mono → h.nly ≤ h.nlx → AreGreyPlanes h planes → HasRows h bands → band < bands_of h
-    → number < length (get_or bands band []) → line < length (get_or planes band []) → length (get_or (get_or planes band []) line []) ≤ length (row_in bands band number)
-row_room h planes bands band number line mono deep are room inside here there =
-    let wide = (grey_sized h planes band mono deep are inside).wide line there in
-    let groups = room.groups band number inside (omega (arith, here, room.lines band inside)) in
-    omega (arith, wide, groups)
+-- the plane of a band has its size
+pub plane_sized : (h : Header) (bands : List (List (List (List ℤ)))) (band : ℕ) → h.nly ≤ h.nlx → band < bands_of h → ArePicturePlanes h bands
+    → HasSize (band_width_of h band) (band_height_of h band) (plane_of_band h bands band)
+plane_sized h bands band deep inside are =
+    let component = band_component h band in
+    let number = band / components_of h.shape.format in
+    subst (λ n. HasSize (band_width_of h n) (band_height_of h n) (plane_of_band h bands band)) (number_is h band)
+    (band_sized h number component (get_or bands component []) (component_there h band) ((are.each component (component_there h band)).sized.sizes number (number_there h band deep inside)))
 
-pub room_more : (h : Header) (bands : List (List (List ℤ))) (band : ℕ) (rows : List (List ℤ)) → band < bands_of h → length rows ≡ length (get_or bands band [])
-    → ((number : ℕ) → length (get_or rows number []) ≡ length (row_in bands band number)) → HasRows h bands → HasRows h (set bands band rows)
-room_more h bands band rows inside many widths room = record {
-  count = length-set bands band rows ∙ room.count;
-  lines = λ b less.
-      elim (cases_eq b band) [
-        | inl is ↦ ap length (get_or-set_at bands band b rows [] is there) ∙ many ∙ ap (λ n. length (get_or bands n [])) (sym is) ∙ room.lines b less
-        | inr other ↦ ap length (get_or-set_other bands band b rows [] other) ∙ room.lines b less
+-- ---- lines
+
+-- the first lines of a band are folded
+pub record IsFoldedTo (fraction : ℕ) (plane : List (List ℤ)) (band : ℕ) (old : List BandLines) (end : ℕ) (new : List BandLines) : Type 0 where
+  pub lines : (h : Header) (slice : ℕ) → AreLinesOf h slice old → AreLinesOf h slice new
+  pub same : (other line : ℕ) → HasLine new other line ↔ HasLine old other line
+  pub folded : (line : ℕ) → line < end → HasLine old band line → row_at new band line ≡ folded_row fraction (get_or plane line [])
+  pub later : (line : ℕ) → end ≤ line → HasLine old band line → row_at new band line ≡ row_at old band line
+  pub others : (other line : ℕ) → other ≢ band → HasLine old other line → row_at new other line ≡ row_at old other line
+
+pub folded_more : (fraction : ℕ) (plane : List (List ℤ)) (band : ℕ) (old : List BandLines) (at : ℕ) (rows next : List BandLines) → HasLine old band at → length (get_or plane at []) ≡ length (row_at rows band at)
+    → next ≡ with_row rows band at (folded_row fraction (get_or plane at [])) → IsFoldedTo fraction plane band old at rows → IsFoldedTo fraction plane band old (at + 1) next
+folded_more fraction plane band old at rows next there wide more before = subst (IsFoldedTo fraction plane band old (at + 1)) (sym more) (record {
+  lines = λ h slice are. lines_kept h slice rows band at row (before.lines h slice are) here whole;
+  same = λ other line. ((λ has. (before.same other line).0 ((written.same_lines other line).0 has)), (λ has. (written.same_lines other line).1 ((before.same other line).1 has)));
+  folded = λ line less has.
+      elim (cases_eq line at) [
+        | inl is ↦ subst (λ k. row_at (with_row rows band at row) band k ≡ folded_row fraction (get_or plane k [])) (sym is) written.here
+        | inr apart ↦ written.elsewhere band line ((before.same band line).1 has) (inr apart) ∙ before.folded line (omega (arith, less, apart)) has
       ];
-  groups = λ b number less below.
-      elim (cases_eq b band) [
-        | inl is ↦ ap (λ r. length (get_or r number [])) (get_or-set_at bands band b rows [] is there) ∙ widths number ∙ ap (λ n. length (row_in bands n number)) (sym is) ∙ room.groups b number less below
-        | inr other ↦ ap (λ r. length (get_or r number [])) (get_or-set_other bands band b rows [] other) ∙ room.groups b number less below
-      ];
+  later = λ line above has. written.elsewhere band line ((before.same band line).1 has) (inr (λ e. omega (arith, e, above))) ∙ before.later line (omega (arith, above)) has;
+  others = λ other line apart has. written.elsewhere other line ((before.same other line).1 has) (inl apart) ∙ before.others other line apart has;
+})
+  where
+    row : List ℤ
+    row = folded_row fraction (get_or plane at [])
+
+    here : HasLine rows band at
+    here = (before.same band at).1 there
+
+    whole : length row ≡ length (row_at rows band at)
+    whole = length-map-range_with_len (λ column. fold fraction (entries_of (get_or plane at []) column)) 0 (length (get_or plane at [])) ∙ wide
+
+    written : IsWritten rows band at row
+    written = row_written rows band at row here
+
+-- ---- slices
+
+-- the rows of the first bands are folded
+pub record ShowBandsTo (h : Header) (bands : List (List (List (List ℤ)))) (slice end : ℕ) (rows : List BandLines) : Type 0 where
+  pub lines : AreLinesOf h slice rows
+  pub shown : (band line : ℕ) → band < end → HasLine rows band line → row_at rows band line ≡ map (folded_rows h bands band line) (upto (band_width_of h band))
+
+-- a line of a slice's band is one of its plane, and as wide
+pub line_inside : (h : Header) (bands : List (List (List (List ℤ)))) (slice : ℕ) (rows : List BandLines) (band line : ℕ) → 1 ≤ h.hsl → h.nly ≤ h.nlx → ArePicturePlanes h bands → AreLinesOf h slice rows → HasLine rows band line
+    → (line < length (plane_of_band h bands band)) × (length (get_or (plane_of_band h bands band) line []) ≡ length (row_at rows band line))
+line_inside h bands slice rows band line some deep are lines has =
+    let there = (slice_has_lines h slice rows band line some lines).0 has in
+    let size = plane_sized h bands band deep there.0 are in
+    let inside : line < length (plane_of_band h bands band) = omega (arith, there.1, size.high) in
+    (inside, size.wide line inside ∙ sym (lines.width band line has))
+
+pub rows_more : (h : Header) (bands : List (List (List (List ℤ)))) (slice band : ℕ) (plane : List (List ℤ)) (rows next : List BandLines) → 1 ≤ h.hsl → h.nly ≤ h.nlx → ArePicturePlanes h bands
+    → plane ≡ plane_of_band h bands band → IsBandFolded h.fq plane band rows next → ShowBandsTo h bands slice band rows → ShowBandsTo h bands slice (band + 1) next
+rows_more h bands slice band plane rows next some deep are is folded before = record {
+  lines = folded.lines h slice before.lines;
+  shown = λ b line less has. by_band b line less ((folded.same b line).0 has);
 }
   where
-    there : band < length bands
-    there = omega (arith, inside, room.count)
+    by_band : (b line : ℕ) → b < band + 1 → HasLine rows b line → row_at next b line ≡ map (folded_rows h bands b line) (upto (band_width_of h b))
+    by_band b line less has =
+        elim (cases_eq b band) [
+          | inl same ↦ subst (λ k. row_at next k line ≡ map (folded_rows h bands k line) (upto (band_width_of h k))) (sym same) (this line (subst (λ k. HasLine rows k line) same has))
+          | inr apart ↦ folded.others b line apart has ∙ before.shown b line (omega (arith, less, apart)) has
+        ]
+      where
+        this : (line : ℕ) → HasLine rows band line → row_at next band line ≡ map (folded_rows h bands band line) (upto (band_width_of h band))
+        this line has =
+            let wide = (line_inside h bands slice rows band line some deep are before.lines has).1 ∙ before.lines.width band line has in
+            folded.folded line has ∙ ap (λ p. folded_row h.fq (get_or p line [])) is
+            ∙ ap (λ n. map (folded_rows h bands band line) (upto n)) wide
 
--- a folded row is that of its band
-pub folded_is : (h : Header) (fq : ℕ) (planes : List (List (List ℤ))) (band line column : ℕ) (row : List ℤ) → length (get_or (get_or planes band []) line []) ≡ band_width_of h band → IsFolded fq (get_or (get_or planes band []) line []) row
-    → entries_of row column ≡ folded_rows h fq planes band line column
-folded_is h fq planes band line column row wide folded = by_place (nat_lt column (band_width_of h band)) refl
-  where
-    by_place : (inside : Bool) → nat_lt column (band_width_of h band) ≡ inside → entries_of row column ≡ (if inside then fold fq (band_of planes band line column) else pos 0)
-    by_place true is = folded.within column (omega (arith, ltb-true column (band_width_of h band) is, wide))
-    by_place false is = folded.past column (omega (arith, ltb-false column (band_width_of h band) is, wide))
+-- ---- the rows of a picture
 
--- one more band
-pub show_more : (h : Header) (fq : ℕ) (planes : List (List (List ℤ))) (precinct band first end : ℕ) (bands : List (List (List ℤ))) (rows : List (List ℤ)) → h.shape.format ≡ Mono → h.nly ≤ h.nlx → AreGreyPlanes h planes
-    → band < bands_of h → band < length bands → first ≡ (lines_of h precinct band).0 → end ≡ (lines_of h precinct band).1
-    → ((line : ℕ) → first ≤ line → line < end → IsFolded fq (get_or (get_or planes band []) line []) (get_or rows (line - first) []))
-    → ((b line : ℕ) → b < band → IsLineOf h precinct b line → (column : ℕ) → entries_of (row_in bands b (line - (lines_of h precinct b).0)) column ≡ folded_rows h fq planes b line column)
-    → (b line : ℕ) → b < band + 1 → IsLineOf h precinct b line → (column : ℕ) → entries_of (row_in (set bands band rows) b (line - (lines_of h precinct b).0)) column ≡ folded_rows h fq planes b line column
-show_more h fq planes precinct band first end bands rows mono deep are inside there begins ends folded before b line below is column =
-    elim (cases_eq b band) [
-      | inl same ↦
-          subst (λ n. entries_of (row_in (set bands band rows) n (line - (lines_of h precinct n).0)) column ≡ folded_rows h fq planes n line column) (sym same)
-          (ap (λ r. entries_of (get_or r (line - (lines_of h precinct band).0) []) column) (get_or-set_at bands band band rows [] refl there)
-          ∙ ap (λ n. entries_of (get_or rows (line - n) []) column) (sym begins) ∙ here (subst (λ n. IsLineOf h precinct n line) same is))
-      | inr other ↦
-          let less : b < band = omega (arith, below, other) in
-          ap (λ r. entries_of (get_or r (line - (lines_of h precinct b).0) []) column) (get_or-set_other bands band b rows [] other) ∙ before b line less is column
-    ]
+-- the entries of a row are the picture's
+entry_is : (h : Header) (picture : Picture) (bands : List (List (List (List ℤ)))) (band line column : ℕ) → h.nly ≤ h.nlx → AreBandsOf h picture bands → band < bands_of h → line < band_height_of h band → column < band_width_of h band
+    → folded_rows h bands band line column ≡ band_plane (coefficients_of (signal_of h) (sample_at picture) (band_component h band)) (band_type_of h band) line column
+entry_is h picture bands band line column deep are inside above within =
+    ap (fold h.fq) ((are.each component there).shown number (number_there h band deep inside) line column (omega (arith, above, high)) (omega (arith, within, wide)))
+    ∙ sym (each_plane (fold h.fq) b (type_at (component_split h component) number) line column)
+    ∙ ap (λ t. band_plane (coefficients_of (signal_of h) (sample_at picture) component) t line column) (sym type_is)
   where
-    here : IsLineOf h precinct band line → entries_of (get_or rows (line - first) []) column ≡ folded_rows h fq planes band line column
-    here is =
-        let size = grey_sized h planes band mono deep are inside in
-        folded_is h fq planes band line column (get_or rows (line - first) []) (size.wide line (omega (arith, is.line_there, size.high)))
-        (folded line (omega (arith, begins, is.from)) (omega (arith, ends, is.to)))
+    component : ℕ
+    component = band_component h band
 
--- what rows of a precinct show of the planes, they show of the picture; a layout is all that is kept of its header
-pub shown_rows : (h : Header) (picture : Picture) (planes : List (List (List ℤ))) (precinct : ℕ) (rows : List (List (List ℤ))) → h.shape.format ≡ Mono → h.nly ≤ h.nlx → AreBandsOf h picture planes
-    → ShowPrecinct (geometry_of h) (folded_rows (geometry_of h) h.fq planes) precinct rows → ShowPrecinct (geometry_of h) (rows_of_picture h picture) precinct rows
-shown_rows h picture planes precinct rows mono deep are show band line is column =
-    show band line is column ∙ by_place (nat_lt column (band_width_of h band)) refl
-  where
+    number : ℕ
+    number = band / components_of h.shape.format
+
+    there : band_component h band < components_of h.shape.format
+    there = component_there h band
+
     b : Bands
-    b = analysed (signal_of h) (sample_at picture) 0
+    b = analysed (signal_of h) (sample_at picture) component
 
-    coefficient : ℕ → ℤ
-    coefficient component = band_plane (coefficients_of (signal_of h) (sample_at picture) component) (band_type_of h band) line column
+    type_is : band_type_of h band ≡ type_at (component_split h component) number
+    type_is = ap (band_type_of h) (sym (number_is h band)) ∙ type_of_number h number component there
 
-    type_is : band_type_of h band ≡ type_at (component_split h 0) band
-    type_is = ap (band_type_of h) (sym (grey_number h band mono)) ∙ type_of_number h band 0 (grey_there h mono)
+    wide : band_width_of h band ≡ columns_in (component_split h component) (type_at (component_split h component) number)
+    wide = ap (band_width_of h) (sym (number_is h band)) ∙ width_of_number h number component there
 
-    component_is : band_component h band ≡ 0
-    component_is = ap (band_component h) (sym (grey_number h band mono)) ∙ component_of_number h band 0 (grey_there h mono)
+    high : band_height_of h band ≡ rows_in (component_split h component) (type_at (component_split h component) number)
+    high = ap (band_height_of h) (sym (number_is h band)) ∙ height_of_number h number component there
 
-    same : column < band_width_of h band → fold h.fq (band_of planes band line column) ≡ coefficient (band_component h band)
-    same inside =
-        let wide = ap (band_width_of h) (sym (grey_number h band mono)) ∙ width_of_number h band 0 (grey_there h mono) in
-        let high = ap (band_height_of h) (sym (grey_number h band mono)) ∙ height_of_number h band 0 (grey_there h mono) in
-        let there : band < band_count (component_split h 0) = omega (arith, is.band_there, grey_count h mono deep) in
-        ap (fold h.fq) (are.shown band there line column (omega (arith, is.line_there, high)) (omega (arith, inside, wide)))
-        ∙ sym (each_plane (fold h.fq) b (type_at (component_split h 0) band) line column)
-        ∙ ap (λ t. band_plane (coefficients_of (signal_of h) (sample_at picture) 0) t line column) (sym type_is)
-        ∙ ap coefficient (sym component_is)
+-- the rows of a slice are those of the picture
+pub slice_shown : (h : Header) (picture : Picture) (bands : List (List (List (List ℤ)))) (slice : ℕ) (rows : List BandLines) → IsAccepted h → AreBandsOf h picture bands → AreLinesOf h slice rows
+    → ShowRows h (folded_rows h bands) rows → SameInSlice h slice (rows_held rows) (rows_of_picture h picture)
+slice_shown h picture bands slice rows accepted are lines shown band line inside above here = λ i column. entry column i
+  where
+    deep : h.nly ≤ h.nlx
+    deep = omega (arith, accepted.geometry.nly)
 
-    by_place : (inside : Bool) → nat_lt column (band_width_of h band) ≡ inside → (if inside then fold h.fq (band_of planes band line column) else pos 0) ≡ (if inside then coefficient (band_component h band) else pos 0)
-    by_place true here = same (ltb-true column (band_width_of h band) here)
-    by_place false here = refl
+    row_is : row_at rows band line ≡ map (folded_rows h bands band line) (upto (band_width_of h band))
+    row_is = shown band line ((slice_has_lines h slice rows band line accepted.geometry.hsl lines).1 (inside, above, here))
+
+    entry : (column : ℕ) → rows_held rows band line column ≡ rows_of_picture h picture band line column
+    entry column = ap (λ r. get_or r column (pos 0)) row_is ∙ by_place (nat_lt column (band_width_of h band)) refl
+      where
+        by_place : (test : Bool) → nat_lt column (band_width_of h band) ≡ test → get_or (map (folded_rows h bands band line) (upto (band_width_of h band))) column (pos 0)
+            ≡ (if test then band_plane (coefficients_of (signal_of h) (sample_at picture) (band_component h band)) (band_type_of h band) line column else pos 0)
+        by_place true is =
+            let within = ltb-true column (band_width_of h band) is in
+            get_or-map-range_with_len (folded_rows h bands band line) 0 (band_width_of h band) column column (pos 0) within (omega arith) ∙ entry_is h picture bands band line column deep are inside above within
+        by_place false is =
+            let past = ltb-false column (band_width_of h band) is in
+            get_or_past (map (folded_rows h bands band line) (upto (band_width_of h band))) column (pos 0) (omega (arith, past, length-map-range_with_len (folded_rows h bands band line) 0 (band_width_of h band)))
+
+-- folded rows are small
+pub rows_small_held : (h : Header) (bands : List (List (List (List ℤ)))) (rows : List BandLines) → ShowRows h (folded_rows h bands) rows → AreSmall (rows_held rows)
+rows_small_held h bands rows shown band line column = by_band (cases_lt band (length rows))
+  where
+    Small : List ℤ → Type 0
+    Small row = unsigned_abs (get_or row column (pos 0)) < 2 ^ 15
+
+    zero : (row : List ℤ) → length row ≤ column → Small row
+    zero row past = subst (λ z. unsigned_abs z < 2 ^ 15) (sym (get_or_past row column (pos 0) past)) (omega arith)
+
+    one : (k line : ℕ) → HasLine rows k line → Small (row_at rows k line)
+    one k line has = subst Small (sym (shown k line has)) (by_column (cases_lt column (band_width_of h k)))
+      where
+        by_column : (column < band_width_of h k) ⊎ (band_width_of h k ≤ column) → Small (map (folded_rows h bands k line) (upto (band_width_of h k)))
+        by_column (inl within) =
+            subst (λ z. unsigned_abs z < 2 ^ 15) (sym (get_or-map-range_with_len (folded_rows h bands k line) 0 (band_width_of h k) column column (pos 0) within (omega arith)))
+            (omega (arith, fold_fits h.fq (plane_of (plane_of_band h bands k) line column)))
+        by_column (inr past) = zero (map (folded_rows h bands k line) (upto (band_width_of h k))) (omega (arith, past, length-map-range_with_len (folded_rows h bands k line) 0 (band_width_of h k)))
+
+    by_band : (band < length rows) ⊎ (length rows ≤ band) → Small (row_at rows band line)
+    by_band (inr past) =
+        let none : lines_at rows band ≡ record { first = 0; rows = [] } = get_or_past rows band _ past in
+        subst Small (sym (ap (λ (l : BandLines). get_or l.rows (line - l.first) []) none ∙ get_or_past [] line [] (omega arith))) (zero [] (omega arith))
+    by_band (inl inside) = by_line (cases_lt (line - (lines_at rows band).first) (length (lines_at rows band).rows))
+      where
+        first : ℕ
+        first = (lines_at rows band).first
+
+        by_line : (line - (lines_at rows band).first < length (lines_at rows band).rows) ⊎ (length (lines_at rows band).rows ≤ line - (lines_at rows band).first) → Small (row_at rows band line)
+        by_line (inr past) = subst Small (sym (get_or_past (lines_at rows band).rows (line - first) [] past)) (zero [] (omega arith))
+        by_line (inl there) =
+            let back : first + (line - first) - first ≡ line - first = omega arith in
+            subst (λ k. Small (get_or (lines_at rows band).rows k [])) back (one band (first + (line - first)) (record { band_there = inside; from = omega arith; line_there = omega (arith, there) }))

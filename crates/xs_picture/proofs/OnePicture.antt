@@ -7,7 +7,7 @@ use Rattle.xs_lists.specs.Spelling.{upto}
 use Rattle.xs_lists.proofs.Each.{all-range}
 use Rattle.xs_params.specs.declared.header.Header.{Header}
 use Rattle.xs_signal.specs.Quantiser.{dequantised}
-use Rattle.xs_params.specs.Geometry.{bands_of, band_width_of, packet_bands, packets_of, precincts_of, slice_count}
+use Rattle.xs_params.specs.Geometry.{band_width_of, packet_bands, packets_of, precincts_of, slice_count}
 use Rattle.xs_params.specs.Accepted.{IsAccepted}
 use Rattle.xs_grammar.specs.Precinct.{Content, line_truncation, precinct_of}
 use Rattle.xs_grammar.specs.Laws.{SameBandLine, SamePrecinct}
@@ -18,9 +18,9 @@ use Rattle.xs_geometry.specs.Places.{packet_at, no_place}
 use Rattle.xs_geometry.proofs.PacketLines.{line_in_one_packet}
 use Rattle.xs_geometry.proofs.WrittenRows.{accepted_ranges}
 use Rattle.xs_decoding.specs.Decoded.{IsDecodingOf}
-use Rattle.xs_decoding.specs.Dequantised.{dequantised_rows}
+use Rattle.xs_reading.specs.Rows.{dequantised_rows}
 use Rattle.xs_decoding.specs.Laws.{SameRowsWithin}
-use Rattle.xs_decoding.proofs.Packets.{IsHere, places_here}
+use Rattle.xs_reading.proofs.Places.{IsBandOf, IsOfPrecinct, bands_in, packets_own}
 use Rattle.xs_decoding.proofs.Within.{decoded_within}
 use Rattle.xs_picture.specs.OnePicture.{OnePicture}
 
@@ -43,10 +43,10 @@ all_has : {A : Type 0} (P : A → Type 0) (xs : List A) (x : A) → AllByRecursi
 all_has P xs x h has = subst P has.2 (all_at P xs has.0 x h has.1)
 
 -- two contents that agree on all precincts have the same rows
-within_one : (h : Header) (content other : Content) → IsAccepted h → AllByRecursion (λ slice. AllByRecursion (SamePrecinct h content other) (precincts_of h slice)) (upto (slice_count h))
+pub within_one : (h : Header) (content other : Content) → IsAccepted h → AllByRecursion (λ slice. AllByRecursion (SamePrecinct h content other) (precincts_of h slice)) (upto (slice_count h))
     → SameRowsWithin h (dequantised_rows h content) (dequantised_rows h other)
 within_one h content other accepted same band line column inside there within =
-    rows_one h content other band line column precinct within here.0 one (subst (SameBandLine h content other band) holds.line_is line_same)
+    rows_one h content other band line column precinct within here one (subst (SameBandLine h content other band) holds.line_is line_same)
   where
     found : (slice precinct number : ℕ) × HoldsLine h band line slice precinct number
         × ((s p n : ℕ) → HoldsLine h band line s p n → (s ≡ slice) × (p ≡ precinct) × (n ≡ number))
@@ -66,10 +66,11 @@ within_one h content other accepted same band line column inside there within =
     line_same = all_has (λ band. SameBandLine h content other band (packet_at h found.1 found.2).line) (packet_bands h (packet_at h found.1 found.2)) band
         (all_at (λ place. AllByRecursion (λ band. SameBandLine h content other band place.line) (packet_bands h place)) (packets_of h found.1) found.2 no_place one.lines holds.number_there) holds.band_in
 
-    here : (precinct_of h band line ≡ found.1) × (band < bands_of h)
-    here = subst (λ line. (precinct_of h band line ≡ found.1) × (band < bands_of h)) holds.line_is
-        (all_has (λ band. (precinct_of h band (packet_at h found.1 found.2).line ≡ found.1) × (band < bands_of h)) (packet_bands h (packet_at h found.1 found.2)) band
-        (all_at (IsHere h found.1) (packets_of h found.1) found.2 no_place (places_here h found.1 (omega (arith, accepted.geometry.nly))) holds.number_there) holds.band_in)
+    own : IsOfPrecinct h found.1 (packet_at h found.1 found.2)
+    own = all_at (IsOfPrecinct h found.1) (packets_of h found.1) found.2 no_place (packets_own h found.1 (omega (arith, accepted.geometry.nly))) holds.number_there
+
+    here : precinct_of h band line ≡ found.1
+    here = ap (precinct_of h band) (sym holds.line_is) ∙ own band (all_has (IsBandOf h (packet_at h found.1 found.2)) (packet_bands h (packet_at h found.1 found.2)) band (bands_in h (packet_at h found.1 found.2) (IsBandOf h (packet_at h found.1 found.2)) (λ b is. is)) holds.band_in)
 
 pub one_picture : OnePicture
 one_picture h other content contents bytes n m picture p q decoded = (
@@ -79,15 +80,15 @@ one_picture h other content contents bytes n m picture p q decoded = (
     whole = decoded.whole;
     shape = decoded.shape;
     samples = λ component row column place.
-        decoded.samples component row column place ∙ decoded_within h (dequantised_rows h content) (dequantised_rows h contents) component row column p.1.spelled.headed.accepted same place;
+        decoded.samples component row column place ∙ decoded_within h (dequantised_rows h content) (dequantised_rows h contents) component row column p.1.headed.accepted same place;
   }),
 )
   where
     one : (drop n bytes ≡ drop m bytes) × (h ≡ other) × AllByRecursion (λ slice. AllByRecursion (SamePrecinct h content contents) (precincts_of h slice)) (upto (slice_count h))
-    one = one_codestream h other content contents (take n bytes) (take m bytes) (drop n bytes) (drop m bytes) p.1.spelled q.1.spelled (take-append-drop n bytes ∙ sym (take-append-drop m bytes))
+    one = one_codestream h other content contents (take n bytes) (take m bytes) (drop n bytes) (drop m bytes) p.1 q.1 (take-append-drop n bytes ∙ sym (take-append-drop m bytes))
 
     lengths : n ≡ m
     lengths = omega (arith, p.0, q.0, ap length one.0, length-drop n bytes, length-drop m bytes)
 
     same : SameRowsWithin h (dequantised_rows h content) (dequantised_rows h contents)
-    same = within_one h content contents p.1.spelled.headed.accepted one.2
+    same = within_one h content contents p.1.headed.accepted one.2

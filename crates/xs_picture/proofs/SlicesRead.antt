@@ -1,150 +1,129 @@
 -- Slices that were read one after the other: their contents are put together, since each speaks of its own lines.
-use Rattle.std.proofs.Common.{◌≡◌, ℕ, ◌+◌, ◌-◌, ◌*◌, ◌/◌, ◌<◌, ◌≤◌, List, [], ◌∷◌, ◌++◌, take, drop, length, get_or, refl, sym, ap, subst, ◌∙◌, arith, append_assoc, length-append, inl, inr}
-use Rattle.std.specs.Prelude.{Bool, true, false, if◌then◌else◌, nat_lt, min, ℤ, pos}
-use Rattle.std.specs.List.{AllByRecursion, range_with_len}
-use Rattle.std.proofs.Math.Nat.{mul-le-mul_right, mul_assoc, le-div_iff_mul-le}
+use Rattle.std.proofs.Common.{◌≡◌, ℕ, ◌+◌, ◌/◌, ◌<◌, ◌≤◌, List, [], ◌∷◌, ◌++◌, map, take, drop, length, get_or, refl, sym, ap, subst, ◌∙◌, arith, append_assoc, length-append, inl, inr}
+use Rattle.std.specs.Prelude.{Bool, true, false, if◌then◌else◌, nat_lt, ℤ, pos, None}
+use Rattle.std.specs.List.{AllByRecursion}
+use Rattle.std.proofs.Math.Nat.{div-div-eq-div-mul, mul_comm}
 use Rattle.std.proofs.Math.Seq.{get_or-append_seam}
 use Rattle.std.proofs.lemmas.Bool.{lt-ltb, le-ltb, cases_lt}
-use Rattle.std.proofs.lemmas.List.{take-append-drop, get_or_append_left}
-use Rattle.std.proofs.lemmas.Nat.{pow_pos}
+use Rattle.std.proofs.lemmas.List.{take-append-drop, drop-drop, get_or_append_left, get_or_past}
+use Rattle.std.proofs.lemmas.List.FromFn.{get_or-map-range_with_len, length-map-range_with_len}
 use Rattle.xs_lists.specs.Spelling.{upto, SpellsEach}
 use Rattle.xs_lists.proofs.Each.{each-more, each-same, range-all, range-more}
+use Rattle.xs_lists.proofs.Walk.{all-append}
 use Rattle.xs_params.specs.declared.header.Header.{Header}
+use Rattle.xs_params.specs.Accepted.{IsAccepted}
+use Rattle.xs_params.specs.Geometry.{bands_of, band_height_of, band_width_of, precinct_lines}
 use Rattle.xs_signal.specs.Lines.{entries_of}
 use Rattle.xs_signal.specs.Quantiser.{dequantised}
-use Rattle.xs_params.specs.Geometry.{bands_of, band_height_of, band_type_of, band_width_of, precinct_count, precinct_lines, precincts_of}
-use Rattle.xs_params.specs.Accepted.{IsAccepted}
-use Rattle.xs_grammar.specs.Precinct.{Content, IsPrecinct, line_truncation, precinct_of}
+use Rattle.xs_geometry.specs.SliceLines.{AreLinesOf, BandLines, HasLine, ShowRows, row_at, slice_height}
+use Rattle.xs_grammar.specs.Precinct.{Content, line_truncation, precinct_of}
+use Rattle.xs_grammar.specs.Slice.{IsSlice}
+use Rattle.xs_grammar.specs.Laws.{AgreeOnSlice}
+use Rattle.xs_grammar.proofs.Local.{slice_is_local}
 use Rattle.xs_grammar.proofs.OneSlice.{truncation_at}
-use Rattle.xs_geometry.specs.SliceLines.{BandLines, row_at, slice_height, AreLinesOf}
-use Rattle.xs_decoding.specs.Dequantised.{dequantised_rows}
-use Rattle.xs_decoding.specs.Built.{IsBuiltPrecinct, IsBuiltSlice}
-use Rattle.xs_decoding.proofs.Packets.{AgreeOnPrecinct}
-use Rattle.xs_decoding.proofs.Precincts.{built_is_local}
-use Rattle.xs_slice_read.specs.Slice.{IsSliceRead}
+use Rattle.xs_reading.specs.Rows.{dequantised_rows}
+use Rattle.xs_reading.specs.Slice.{slice_end, slice_fault}
+use Rattle.xs_reading.specs.Stream.{slices_end, slice_start}
+use Rattle.xs_slice_read.specs.Read.{IsFrontRead}
 use Rattle.xs_picture.specs.Coefs.{rows_of_slices}
 use Rattle.xs_picture.specs.StreamRead.{AreSlicesRead}
-use Rattle.xs_picture.proofs.Coverage.{lines_some, quotient_below}
+use Rattle.xs_picture.proofs.Coverage.{line_in_slice}
+
+-- Where slices begin
+
+ends_append : (h : Header) (xs : List ℕ) (x : ℕ) (bytes : List ℕ) (place : ℕ) → slices_end h (xs ++ x ∷ []) bytes place ≡ slices_end h xs bytes place + slice_end h x (drop (slices_end h xs bytes place) bytes)
+ends_append h [] x bytes place = refl
+ends_append h (y ∷ ys) x bytes place = ends_append h ys x bytes (place + slice_end h y (drop place bytes))
+
+upto_more : (n : ℕ) → upto (n + 1) ≡ upto n ++ n ∷ []
+upto_more n = let here : 0 + n ≡ n = omega arith in range-more 0 n ∙ ap (λ k. upto n ++ k ∷ []) here
+
+pub start_more : (h : Header) (bytes : List ℕ) (place slice : ℕ) → slice_start h bytes place (slice + 1) ≡ slice_start h bytes place slice + slice_end h slice (drop (slice_start h bytes place slice) bytes)
+start_more h bytes place slice = ap (λ xs. slices_end h xs bytes place) (upto_more slice) ∙ ends_append h (upto slice) slice bytes place
 
 -- Contents
 
--- the precincts before the first one by the old content, the others by the new one
+-- the slices before one by the old content, the others by the new one
 abbrev pub merged : Header → ℕ → Content → Content → Content
-merged h first old new = record {
-  q = λ precinct. if nat_lt precinct first then old.q precinct else new.q precinct;
-  r = λ precinct. if nat_lt precinct first then old.r precinct else new.r precinct;
-  count = λ band line. if nat_lt (precinct_of h band line) first then old.count band line else new.count band line;
-  value = λ band line. if nat_lt (precinct_of h band line) first then old.value band line else new.value band line;
+merged h slice old new = record {
+  q = λ precinct. if nat_lt (precinct / h.hsl) slice then old.q precinct else new.q precinct;
+  r = λ precinct. if nat_lt (precinct / h.hsl) slice then old.r precinct else new.r precinct;
+  count = λ band line. if nat_lt (precinct_of h band line / h.hsl) slice then old.count band line else new.count band line;
+  value = λ band line. if nat_lt (precinct_of h band line / h.hsl) slice then old.value band line else new.value band line;
 }
 
-pub agree_before : (h : Header) (first precinct : ℕ) (old new : Content) → precinct < first → AgreeOnPrecinct h old (merged h first old new) precinct
-agree_before h first precinct old new before = record {
-  q = ap (λ (b : Bool). if b then old.q precinct else new.q precinct) (below precinct refl);
-  r = ap (λ (b : Bool). if b then old.r precinct else new.r precinct) (below precinct refl);
-  count = λ band line here. ap (λ (b : Bool). if b then old.count band line else new.count band line) (below (precinct_of h band line) here);
-  value = λ band line here. ap (λ (b : Bool). if b then old.value band line else new.value band line) (below (precinct_of h band line) here);
-}
-  where
-    below : (k : ℕ) → k ≡ precinct → true ≡ nat_lt k first
-    below k here = sym (lt-ltb k first (omega (arith, before, here)))
-
-pub agree_after : (h : Header) (first precinct : ℕ) (old new : Content) → first ≤ precinct → AgreeOnPrecinct h new (merged h first old new) precinct
-agree_after h first precinct old new from = record {
-  q = ap (λ (b : Bool). if b then old.q precinct else new.q precinct) (above precinct refl);
-  r = ap (λ (b : Bool). if b then old.r precinct else new.r precinct) (above precinct refl);
-  count = λ band line here. ap (λ (b : Bool). if b then old.count band line else new.count band line) (above (precinct_of h band line) here);
-  value = λ band line here. ap (λ (b : Bool). if b then old.value band line else new.value band line) (above (precinct_of h band line) here);
+agree_before : (h : Header) (slice k : ℕ) (old new : Content) → k < slice → AgreeOnSlice h old (merged h slice old new) k
+agree_before h slice k old new less = record {
+  q = λ precinct here. ap (λ (b : Bool). if b then old.q precinct else new.q precinct) (below (precinct / h.hsl) here);
+  r = λ precinct here. ap (λ (b : Bool). if b then old.r precinct else new.r precinct) (below (precinct / h.hsl) here);
+  count = λ band line here. ap (λ (b : Bool). if b then old.count band line else new.count band line) (below (precinct_of h band line / h.hsl) here);
+  value = λ band line here. ap (λ (b : Bool). if b then old.value band line else new.value band line) (below (precinct_of h band line / h.hsl) here);
 }
   where
-    above : (k : ℕ) → k ≡ precinct → false ≡ nat_lt k first
-    above k here = sym (le-ltb k first (omega (arith, from, here)))
+    below : (n : ℕ) → n ≡ k → true ≡ nat_lt n slice
+    below n here = sym (lt-ltb n slice (omega (arith, less, here)))
 
--- Precincts and slices of another content
-
-range_below : (first end count k : ℕ) → first ≤ k → k < first + (min end count - first) → k < end
-range_below first end count k low high = omega (arith, low, high)
-
--- what holds from a slice's first precinct up to the next slice's holds of its precincts
-pub each_precinct : (h : Header) (P : ℕ → Type 0) (slice : ℕ) → ((precinct : ℕ) → slice * h.hsl ≤ precinct → precinct < (slice + 1) * h.hsl → P precinct) → AllByRecursion P (precincts_of h slice)
-each_precinct h P slice each =
-    range-all P (slice * h.hsl) (min ((slice + 1) * h.hsl) (precinct_count h) - slice * h.hsl)
-    (λ k low high. each k low (range_below (slice * h.hsl) ((slice + 1) * h.hsl) (precinct_count h) k low high))
-
--- the precincts of a slice move to a content that agrees on it
-pub precincts_move : (h : Header) (content other : Content) (slice : ℕ) → h.nly ≤ h.nlx → ((precinct : ℕ) → slice * h.hsl ≤ precinct → precinct < (slice + 1) * h.hsl → AgreeOnPrecinct h content other precinct)
-    → AllByRecursion (λ k. (l : List ℕ) → IsBuiltPrecinct h content k l → IsBuiltPrecinct h other k l) (precincts_of h slice)
-precincts_move h content other slice deep same =
-    each_precinct h (λ k. (l : List ℕ) → IsBuiltPrecinct h content k l → IsBuiltPrecinct h other k l) slice
-    (λ precinct from to l built. built_is_local h content other precinct l deep (same precinct from to) built)
-
-all_spelled : (h : Header) (content : Content) (xs : List ℕ) → AllByRecursion (λ x. (l : List ℕ) → IsBuiltPrecinct h content x l → IsPrecinct h content x l) xs
-all_spelled h content [] = tt
-all_spelled h content (x ∷ xs) = (λ l built. built.spelled, all_spelled h content xs)
-
-slice_moves : (h : Header) (content other : Content) (slice : ℕ) (bytes : List ℕ) → h.nly ≤ h.nlx
-    → ((precinct : ℕ) → slice * h.hsl ≤ precinct → precinct < (slice + 1) * h.hsl → AgreeOnPrecinct h content other precinct) → IsBuiltSlice h content slice bytes → IsBuiltSlice h other slice bytes
-slice_moves h content other slice bytes deep same p =
-    let moved : SpellsEach (IsBuiltPrecinct h other) (precincts_of h slice) p.spelled.body =
-    each-same (IsBuiltPrecinct h content) (IsBuiltPrecinct h other) (precincts_of h slice) p.spelled.body (precincts_move h content other slice deep same) p.precincts in
-    record {
-      spelled = record {
-        index = p.spelled.index;
-        body = p.spelled.body;
-        joined = p.spelled.joined;
-        spelled = each-same (IsBuiltPrecinct h other) (IsPrecinct h other) (precincts_of h slice) p.spelled.body (all_spelled h other (precincts_of h slice)) moved;
-      };
-      precincts = moved;
-    }
+agree_after : (h : Header) (slice k : ℕ) (old new : Content) → slice ≤ k → AgreeOnSlice h new (merged h slice old new) k
+agree_after h slice k old new past = record {
+  q = λ precinct here. ap (λ (b : Bool). if b then old.q precinct else new.q precinct) (above (precinct / h.hsl) here);
+  r = λ precinct here. ap (λ (b : Bool). if b then old.r precinct else new.r precinct) (above (precinct / h.hsl) here);
+  count = λ band line here. ap (λ (b : Bool). if b then old.count band line else new.count band line) (above (precinct_of h band line / h.hsl) here);
+  value = λ band line here. ap (λ (b : Bool). if b then old.value band line else new.value band line) (above (precinct_of h band line / h.hsl) here);
+}
+  where
+    above : (n : ℕ) → n ≡ k → false ≡ nat_lt n slice
+    above n here = sym (le-ltb n slice (omega (arith, past, here)))
 
 -- the first slices move to a content that agrees on them
-pub slices_move : (h : Header) (content other : Content) (count : ℕ) (front : List ℕ) → h.nly ≤ h.nlx → ((precinct : ℕ) → precinct < count * h.hsl → AgreeOnPrecinct h content other precinct)
-    → SpellsEach (IsBuiltSlice h content) (upto count) front → SpellsEach (IsBuiltSlice h other) (upto count) front
-slices_move h content other count front deep same p =
-    each-same (IsBuiltSlice h content) (IsBuiltSlice h other) (upto count) front
-    (range-all (λ k. (l : List ℕ) → IsBuiltSlice h content k l → IsBuiltSlice h other k l) 0 count
-    (λ k low high l built. slice_moves h content other k l deep (λ precinct from to. same precinct (within k precinct high to)) built)) p
-  where
-    within : (k precinct : ℕ) → k < 0 + count → precinct < (k + 1) * h.hsl → precinct < count * h.hsl
-    within k precinct high to =
-        let less : k + 1 ≤ count = omega (arith, high) in
-        let most : (k + 1) * h.hsl ≤ count * h.hsl = mul-le-mul_right h.hsl less in
-        omega (arith, to, most)
+slices_move : (h : Header) (content other : Content) (count : ℕ) (front : List ℕ) → 1 ≤ h.hsl → h.nly ≤ h.nlx → ((k : ℕ) → k < count → AgreeOnSlice h content other k)
+    → SpellsEach (IsSlice h content) (upto count) front → SpellsEach (IsSlice h other) (upto count) front
+slices_move h content other count front some deep same p =
+    each-same (IsSlice h content) (IsSlice h other) (upto count) front
+    (range-all (λ k. (l : List ℕ) → IsSlice h content k l → IsSlice h other k l) 0 count (λ k low high l slice. slice_is_local h content other k l some deep (same k (omega (arith, high))) slice)) p
 
 -- Rows
 
--- contents that agree on a precinct have the same rows there
-same_rows : (h : Header) (content other : Content) (band line column : ℕ) → AgreeOnPrecinct h content other (precinct_of h band line) → dequantised_rows h content band line column ≡ dequantised_rows h other band line column
-same_rows h content other band line column agree =
+-- contents that agree on a slice have the same rows there
+same_rows : (h : Header) (content other : Content) (band line column k : ℕ) → precinct_of h band line / h.hsl ≡ k → AgreeOnSlice h content other k → dequantised_rows h content band line column ≡ dequantised_rows h other band line column
+same_rows h content other band line column k here agree =
     ap (λ v. if nat_lt column (band_width_of h band) then v else pos 0)
-    (ap (λ (c : ℕ → ℕ). dequantised h.quant (c (column / 4)) (line_truncation h content band line) (content.value band line column)) (agree.count band line refl)
-    ∙ ap (λ t. dequantised h.quant (other.count band line (column / 4)) t (content.value band line column)) (truncation_at h content other band line (precinct_of h band line) refl agree.q agree.r)
-    ∙ ap (λ (v : ℕ → ℤ). dequantised h.quant (other.count band line (column / 4)) (line_truncation h other band line) (v column)) (agree.value band line refl))
+    (ap (λ (c : ℕ → ℕ). dequantised h.quant (c (column / 4)) (line_truncation h content band line) (content.value band line column)) (agree.count band line here)
+    ∙ ap (λ t. dequantised h.quant (other.count band line (column / 4)) t (content.value band line column)) (truncation_at h content other band line (precinct_of h band line) refl (agree.q (precinct_of h band line) here) (agree.r (precinct_of h band line) here))
+    ∙ ap (λ (v : ℕ → ℤ). dequantised h.quant (other.count band line (column / 4)) (line_truncation h other band line) (v column)) (agree.value band line here))
 
-below_of : (n d q : ℕ) → 0 < d → n / d < q → n < q * d
-below_of n d q some less =
-    elim (cases_lt n (q * d)) [
-      | inl below ↦ below
-      | inr past ↦ let most : q ≤ n / d = (le-div_iff_mul-le some).1 past in absurd (omega (arith, less, most))
+-- the slice of a line
+slice_of_line : (h : Header) (band line : ℕ) → precinct_of h band line / h.hsl ≡ line / slice_height h band
+slice_of_line h band line = div-div-eq-div-mul line (precinct_lines h band) h.hsl ∙ ap (λ n. line / n) (mul_comm (precinct_lines h band) h.hsl)
+
+-- a row that shows a content has its coefficients
+row_shown : (h : Header) (content : Content) (bands : List BandLines) (band line column : ℕ) → ShowRows h (dequantised_rows h content) bands → HasLine bands band line
+    → entries_of (row_at bands band line) column ≡ dequantised_rows h content band line column
+row_shown h content bands band line column show there =
+    ap (λ l. entries_of l column) (show band line there)
+    ∙ elim (cases_lt column width) [
+      | inl less ↦ let here : 0 + column ≡ column = omega arith in get_or-map-range_with_len row 0 width column column (pos 0) less here
+      | inr past ↦
+          let size = length-map-range_with_len row 0 width in
+          let out : length (map row (upto width)) ≤ column = omega (arith, size, past) in
+          get_or_past (map row (upto width)) column (pos 0) out ∙ ap (λ (b : Bool). if b then value else pos 0) (sym (le-ltb column width past))
     ]
+  where
+    width : ℕ
+    width = band_width_of h band
 
-above_of : (n d q : ℕ) → 0 < d → q ≤ n / d → q * d ≤ n
-above_of n d q some most = (le-div_iff_mul-le some).0 most
+    row : ℕ → ℤ
+    row = dequantised_rows h content band line
 
--- the precinct of a line that stands before a slice, and of one that does not
-precinct_before : (h : Header) (slice band line : ℕ) → line < slice * slice_height h band → precinct_of h band line < slice * h.hsl
-precinct_before h slice band line below =
-    quotient_below line (precinct_lines h band) (slice * h.hsl) (pow_pos (h.nly - (band_type_of h band).down)) (omega (arith, below, mul_assoc slice h.hsl (precinct_lines h band)))
-
-precinct_after : (h : Header) (slice band line : ℕ) → slice * slice_height h band ≤ line → slice * h.hsl ≤ precinct_of h band line
-precinct_after h slice band line from =
-    let some : 0 < precinct_lines h band = pow_pos (h.nly - (band_type_of h band).down) in
-    (le-div_iff_mul-le some).1 (omega (arith, from, mul_assoc slice h.hsl (precinct_lines h band)))
+    value : ℤ
+    value = dequantised h.quant (content.count band line (column / 4)) (line_truncation h content band line) (content.value band line column)
 
 -- Slices
 
--- nothing is read yet
-pub none_read : (h : Header) (slices : List (List BandLines)) (bytes : List ℕ) → slices ≡ [] → AreSlicesRead h 0 slices bytes bytes
-none_read h slices bytes none = record {
+-- nothing is read
+pub none_read : (h : Header) (bytes : List ℕ) (start : ℕ) (slices : List (List BandLines)) → slices ≡ [] → AreSlicesRead h bytes start 0 slices start
+none_read h bytes start slices none = record {
+  no_fault = tt;
+  ends = refl;
   content = record { q = λ _. 0; r = λ _. 0; count = λ _ _ _. 0; value = λ _ _ _. pos 0 };
   front = [];
   joined = refl;
@@ -155,35 +134,41 @@ none_read h slices bytes none = record {
 }
 
 -- one slice more
-pub more_read : (h : Header) (slice : ℕ) (slices : List (List BandLines)) (rows : List BandLines) (bytes rest : List ℕ) (n : ℕ) → IsAccepted h
-    → AreSlicesRead h slice slices bytes rest → IsSliceRead h slice rows rest n → AreSlicesRead h (slice + 1) (slices ++ rows ∷ []) bytes (drop n rest)
-more_read h slice slices rows bytes rest n accepted so read = record {
+pub more_read : (h : Header) (bytes : List ℕ) (start slice : ℕ) (slices : List (List BandLines)) (rows : List BandLines) (place n : ℕ) → IsAccepted h
+    → AreSlicesRead h bytes start slice slices place → IsFrontRead h slice rows (drop place bytes) n → AreSlicesRead h bytes start (slice + 1) (slices ++ rows ∷ []) (place + n)
+more_read h bytes start slice slices rows place n accepted so read = record {
+  no_fault = subst (AllByRecursion faultless) (sym (upto_more slice))
+      (all-append faultless (upto slice) (slice ∷ []) so.no_fault (subst (λ k. slice_fault h slice (drop k bytes) ≡ None) (sym so.ends) read.no_fault, tt));
+  ends = start_more h bytes start slice ∙ ap (λ k. k + slice_end h slice (drop k bytes)) so.ends ∙ ap (λ k. place + k) read.ends;
   content = now;
-  front = so.front ++ take n rest;
-  joined = so.joined ∙ ap (λ l. so.front ++ l) (sym (take-append-drop n rest)) ∙ sym (append_assoc so.front (take n rest) (drop n rest));
-  spelled = subst (λ l. SpellsEach (IsBuiltSlice h now) l (so.front ++ take n rest)) (sym order) (each-more (IsBuiltSlice h now) (upto slice) slice so.front (take n rest) earlier last);
+  front = so.front ++ part;
+  joined = so.joined ∙ ap (λ l. so.front ++ l) (sym (take-append-drop n rest) ∙ ap (λ l. part ++ l) (drop-drop n place bytes)) ∙ sym (append_assoc so.front part (drop (place + n) bytes));
+  spelled = subst (λ l. SpellsEach (IsSlice h now) l (so.front ++ part)) (sym (upto_more slice)) (each-more (IsSlice h now) (upto slice) slice so.front part earlier last);
   number = omega (arith, length-append slices (rows ∷ []), so.number);
   lines = lines;
   shown = shown;
 }
   where
-    first : ℕ
-    first = slice * h.hsl
+    faultless : ℕ → Type 0
+    faultless k = slice_fault h k (drop (slice_start h bytes start k) bytes) ≡ None
+
+    rest : List ℕ
+    rest = drop place bytes
+
+    part : List ℕ
+    part = take n rest
 
     now : Content
-    now = merged h first so.content read.content
+    now = merged h slice so.content read.content
 
     deep : h.nly ≤ h.nlx
     deep = omega (arith, accepted.geometry.nly)
 
-    order : upto (slice + 1) ≡ upto slice ++ (slice ∷ [])
-    order = let here : 0 + slice ≡ slice = omega arith in range-more 0 slice ∙ ap (λ k. range_with_len 0 slice ++ (k ∷ [])) here
+    earlier : SpellsEach (IsSlice h now) (upto slice) so.front
+    earlier = slices_move h so.content now slice so.front accepted.geometry.hsl deep (λ k less. agree_before h slice k so.content read.content less) so.spelled
 
-    earlier : SpellsEach (IsBuiltSlice h now) (upto slice) so.front
-    earlier = slices_move h so.content now slice so.front deep (λ precinct before. agree_before h first precinct so.content read.content before) so.spelled
-
-    last : IsBuiltSlice h now slice (take n rest)
-    last = slice_moves h read.content now slice (take n rest) deep (λ precinct from to. agree_after h first precinct so.content read.content from) read.spelled
+    last : IsSlice h now slice part
+    last = slice_is_local h read.content now slice part accepted.geometry.hsl deep (agree_after h slice slice so.content read.content (omega arith)) read.spelled.1
 
     seam : get_or (slices ++ rows ∷ []) slice [] ≡ rows
     seam = ap (λ k. get_or (slices ++ rows ∷ []) k []) (sym so.number) ∙ get_or-append_seam slices rows [] []
@@ -204,18 +189,14 @@ more_read h slice slices rows bytes rest n accepted so read = record {
         → rows_of_slices h (slices ++ rows ∷ []) band line column ≡ dequantised_rows h now band line column
     shown band line column inside there within =
         let height = slice_height h band in
-        let some : 0 < height = lines_some h band accepted in
         elim (cases_lt (line / height) slice) [
           | inl less ↦
-              let below : line < slice * height = below_of line height slice some less in
               ap (λ (s : List BandLines). entries_of (row_at s band line) column) (kept (line / height) less) ∙ so.shown band line column inside there less
-              ∙ same_rows h so.content now band line column (agree_before h first (precinct_of h band line) so.content read.content (precinct_before h slice band line below))
+              ∙ same_rows h so.content now band line column (line / height) (slice_of_line h band line) (agree_before h slice (line / height) so.content read.content less)
           | inr past ↦
-              let here : slice ≡ line / height = omega (arith, within, past) in
-              let from : slice * height ≤ line = above_of line height slice some past in
-              let to : line < (slice + 1) * height = below_of line height (slice + 1) some within in
-              ap (λ k. entries_of (row_at (get_or (slices ++ rows ∷ []) k []) band line) column) (sym here)
+              let here : line / height ≡ slice = omega (arith, within, past) in
+              ap (λ k. entries_of (row_at (get_or (slices ++ rows ∷ []) k []) band line) column) here
               ∙ ap (λ (s : List BandLines). entries_of (row_at s band line) column) seam
-              ∙ read.shown band line column inside (omega (arith, from)) (omega (arith, to, there))
-              ∙ same_rows h read.content now band line column (agree_after h first (precinct_of h band line) so.content read.content (precinct_after h slice band line from))
+              ∙ row_shown h read.content rows band line column read.shown (line_in_slice h slice rows band line accepted read.lines inside there here)
+              ∙ same_rows h read.content now band line column (line / height) (slice_of_line h band line) (agree_after h slice (line / height) so.content read.content past)
         ]

@@ -7,7 +7,7 @@ use Rattle.std.proofs.Math.ListN.{set}
 use Rattle.xs_signal.specs.Lines.{IsBelow, AllBelow, entries_of}
 use Rattle.xs_signal.proofs.Floors.{quarter_low, quarter_high}
 use Rattle.xs_wave.specs.Planes.{plane_of, HasSize}
-use Rattle.xs_picture.specs.Decoding.{turned, turned_plane, colour_bound, IsRowTurned, IsLineTurned, HoldsPlane}
+use Rattle.xs_picture.specs.Decoding.{turned, inverse_rct_plane, colour_bound, IsInverseRctRow, IsInverseRctLine, HoldsPlane}
 use Rattle.xs_picture.proofs.Bounds.{list_small, rows_small}
 
 -- ---- numbers
@@ -55,7 +55,7 @@ turned_more component k y u v old new z inside is before = record {
 }
 
 pub turned_all : (component n : ℕ) (y u v old new : List ℤ) → length new ≤ n → AllBelow colour_bound (entries_of y) → AllBelow colour_bound (entries_of u) → AllBelow colour_bound (entries_of v)
-    → IsTurnedTo component n y u v old new → IsRowTurned component y u v new
+    → IsTurnedTo component n y u v old new → IsInverseRctRow component y u v new
 turned_all component n y u v old new all ys us vs done = record {
   turned = λ k inside. done.turned k (omega (arith, inside, all));
   small = list_small (2 ^ 50) new (omega arith)
@@ -67,7 +67,7 @@ turned_all component n y u v old new all ys us vs done = record {
 -- the first lines of a plane are turned, the others are as before
 pub record IsPlaneTurnedTo (component n width height : ℕ) (y u v old new : List (List ℤ)) : Type 0 where
   pub size : HasSize width height new
-  pub turned : (row column : ℕ) → row < n → column < width → plane_of new row column ≡ turned_plane component y u v row column
+  pub turned : (row column : ℕ) → row < n → column < width → plane_of new row column ≡ inverse_rct_plane component y u v row column
   pub small : (row : ℕ) → row < n → AllBelow (2 ^ 50) (plane_of new row)
   pub rest : (row : ℕ) → n ≤ row → get_or new row [] ≡ get_or old row []
 
@@ -82,7 +82,7 @@ plane_start component width height y u v old size = record {
 -- a line of a plane of which it and the later lines are as before; three planes so have the same numbers there
 pub plane_more : (component n width height : ℕ) (y u v old p q r now new : List (List ℤ)) → n < height
     → get_or p n [] ≡ get_or y n [] → get_or q n [] ≡ get_or u n [] → get_or r n [] ≡ get_or v n []
-    → IsPlaneTurnedTo component n width height y u v old now → IsLineTurned component n p q r now new → IsPlaneTurnedTo component (n + 1) width height y u v old new
+    → IsPlaneTurnedTo component n width height y u v old now → IsInverseRctLine component n p q r now new → IsPlaneTurnedTo component (n + 1) width height y u v old new
 plane_more component n width height y u v old p q r now new inside py qu rv before line = record {
   size = record {
     wide = λ row there.
@@ -98,7 +98,7 @@ plane_more component n width height y u v old p q r now new inside py qu rv befo
             ap (λ k. plane_of new k column) is ∙ line.turned column (omega (arith, within, before.size.wide n (omega (arith, inside, before.size.high))))
             ∙ ap (λ x. turned component (entries_of x column) (plane_of q n column) (plane_of r n column)) py
             ∙ ap (λ x. turned component (plane_of y n column) (entries_of x column) (plane_of r n column)) qu
-            ∙ ap (λ x. turned component (plane_of y n column) (plane_of u n column) (entries_of x column)) rv ∙ sym (ap (λ k. turned_plane component y u v k column) is)
+            ∙ ap (λ x. turned component (plane_of y n column) (plane_of u n column) (entries_of x column)) rv ∙ sym (ap (λ k. inverse_rct_plane component y u v k column) is)
         | inr other ↦ ap (λ x. entries_of x column) (line.others row other) ∙ before.turned row column (omega (arith, less, other)) within
       ];
   small = λ row less.
@@ -110,7 +110,7 @@ plane_more component n width height y u v old p q r now new inside py qu rv befo
 }
 
 pub plane_done : (component n width height : ℕ) (y u v old new : List (List ℤ)) → height ≤ n → IsPlaneTurnedTo component n width height y u v old new
-    → HoldsPlane width height (2 ^ 50) (turned_plane component y u v) new
+    → HoldsPlane width height (2 ^ 50) (inverse_rct_plane component y u v) new
 plane_done component n width height y u v old new all done = record {
   size = done.size;
   same = λ row column above within. done.turned row column (omega (arith, above, all)) within;

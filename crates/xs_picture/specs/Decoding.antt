@@ -79,17 +79,17 @@ abbrev pub turned : ℕ → ℤ → ℤ → ℤ → ℤ
 turned component y u v = one_of (unrct y u v) component
 
 -- the plane of red, green or blue of three planes
-abbrev pub turned_plane : ℕ → List (List ℤ) → List (List ℤ) → List (List ℤ) → ℕ → ℕ → ℤ
-turned_plane component y u v row column = turned component (plane_of y row column) (plane_of u row column) (plane_of v row column)
+abbrev pub inverse_rct_plane : ℕ → List (List ℤ) → List (List ℤ) → List (List ℤ) → ℕ → ℕ → ℤ
+inverse_rct_plane component y u v row column = turned component (plane_of y row column) (plane_of u row column) (plane_of v row column)
 
 -- the row holds red, green or blue of three rows
-pub record IsRowTurned (component : ℕ) (y u v new : List ℤ) : Type 0 where
+pub record IsInverseRctRow (component : ℕ) (y u v new : List ℤ) : Type 0 where
   pub turned : (k : ℕ) → k < length new → entries_of new k ≡ turned component (entries_of y k) (entries_of u k) (entries_of v k)
   pub small : AllBelow (2 ^ 50) (entries_of new)
 
 -- one line of a plane is turned so, and all others are as before
-pub record IsLineTurned (component line : ℕ) (y u v old new : List (List ℤ)) : Type 0 where
-  pub turned : (column : ℕ) → column < length (slice_index_or old line []) → plane_of new line column ≡ turned_plane component y u v line column
+pub record IsInverseRctLine (component line : ℕ) (y u v old new : List (List ℤ)) : Type 0 where
+  pub turned : (column : ℕ) → column < length (slice_index_or old line []) → plane_of new line column ≡ inverse_rct_plane component y u v line column
   pub small : AllBelow (2 ^ 50) (plane_of new line)
   pub others : (row : ℕ) → row ≢ line → slice_index_or new row [] ≡ slice_index_or old row []
   pub width : length (slice_index_or new line []) ≡ length (slice_index_or old line [])

@@ -1,10 +1,9 @@
-pub mod PrecinctRows
-pub mod PacketBits
-pub mod Encoded
 pub mod Coefs
 pub mod Decoding
 pub mod Analysed
-pub mod Reading
+pub mod Encoded
+pub mod Faults
 pub mod StreamRead
 pub mod ReadAgain
 pub mod OnePicture
+pub mod Local

@@ -1,30 +1,28 @@
-//! The one-thread codec over whole pictures.
+//! The one-thread codec over whole pictures: bytes are decoded exactly where they are a codestream, and to its picture.
 #![tactic(auto)]
 
-ghost use Rattle.xs_picture.specs.OnePicture.{OnePicture};
+ghost use Rattle.xs_picture.specs.Faults.{FaultsAreNamed};
+ghost use Rattle.xs_picture.specs.OnePicture.{OnePicture, StreamsKnown};
 ghost use Rattle.xs_picture.specs.ReadAgain.{EncodedIsRead};
 
-mod analysis;
-mod band_planes;
-mod coefs;
-mod colours;
-mod decoder;
-mod encoder;
-mod fill;
-mod packet;
-mod precinct;
-mod precinct_rows;
-mod reader;
-mod samples;
-mod slice;
+mod decode;
+mod encode;
 
-pub use coefs::StreamCoefs;
-pub use decoder::{decode_coefs, decode_picture};
-pub use encoder::encode_picture;
-pub use reader::read_stream;
+pub use decode::{StreamCoefs, decode_coefs, decode_picture, read_stream};
+pub use encode::encode_picture;
 pub use xs_faults::{Budget, SliceRefusal, StreamFault};
 
-/// An encoding is a codestream of the form that is read, of the content that was chosen.
+/// Bytes have no fault exactly where they begin with a codestream.
+pub fn streams_known()
+    ensures { StreamsKnown }
+{}
+
+/// Each fault of bytes can be named: memory is wanting in none.
+pub fn faults_are_named()
+    ensures { FaultsAreNamed }
+{}
+
+/// An encoding is read as itself, whatever bytes follow it.
 pub fn encoded_is_read()
     ensures { EncodedIsRead }
 {}

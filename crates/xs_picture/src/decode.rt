@@ -1,0 +1,12 @@
+// Decoding: the bytes of a codestream become its picture.
+
+mod band_planes;
+mod coefs;
+mod colours;
+mod decoder;
+mod reader;
+mod samples;
+
+pub use coefs::StreamCoefs;
+pub use decoder::{decode_coefs, decode_picture};
+pub use reader::read_stream;

@@ -1,0 +1,9 @@
+// Encoding: a picture becomes the bytes of a codestream.
+
+mod analysis;
+mod bands;
+mod colours;
+mod encoder;
+mod folding;
+
+pub use encoder::encode_picture;
