@@ -15,7 +15,7 @@ use Rattle.xs_capture.specs.declared.frames.FrameFault.TheVariants as frames
 use Rattle.xs_capture.specs.Offer.{Offer}
 use Rattle.xs_capture.specs.Capture.{frame, frame_read, IsCutAt, IsShort}
 use Rattle.xs_capture.specs.Offers.{offer_of, offers_of, stepped_of}
-use Rattle.xs_capture.specs.Pictures.{cut_of}
+use Rattle.xs_capture.specs.Pictures.{sort_fault_of}
 use Rattle.xs_capture.specs.Found.{HasOffers, IsFindFault}
 use Rattle.xs_capture.specs.Laws.{IsFrameRead}
 use Rattle.xs_capture.proofs.WholeFrames.{frame_is_read}
@@ -59,7 +59,7 @@ frame_more bytes place read offers stepped all inside first answer before now ot
 
 -- a frame that is cut
 pub cut_here : (bytes : List ℕ) (place : ℕ) (fault : FrameFault) (offers : List Offer) (stepped : ℕ) → AreBytes bytes → place < length bytes
-    → frame_read bytes place ≡ Err fault → HasOffers (take place bytes) offers stepped → IsFindFault bytes (cut_of fault)
+    → frame_read bytes place ≡ Err fault → HasOffers (take place bytes) offers stepped → IsFindFault bytes (sort_fault_of fault)
 cut_here bytes place (frames.Cut first) offers stepped all inside answer before =
     let f = subst (IsFrameRead bytes place) answer (frame_is_read bytes place all inside) in
     subst (IsCutAt bytes) (sym f.0) (record { packets = before.packets; whole = before.whole; follow = inside; cut = f.1 })

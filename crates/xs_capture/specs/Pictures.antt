@@ -51,8 +51,8 @@ pub record HasTooMany (bytes : List ℕ) (count : ℕ) : Type 0 where
   pub many : most_pictures < count
 
 -- a frame that is cut, as the fault of its capture
-abbrev pub cut_of : FrameFault → SortFault
-cut_of (frames.Cut place) = Cut place
+abbrev pub sort_fault_of : FrameFault → SortFault
+sort_fault_of (frames.Cut place) = Cut place
 
 -- what sorting a capture answers; want of memory is free
 abbrev pub IsSorted : List ℕ → Result Sorting SortFault → Type 0

@@ -47,9 +47,9 @@ impl From<Memory> for SortFault {
 
 impl From<FrameFault> for SortFault {
     ghost use Rattle.std.specs.Prelude.{◌≡◌};
-    ghost use Rattle.xs_capture.specs.Pictures.{cut_of};
+    ghost use Rattle.xs_capture.specs.Pictures.{sort_fault_of};
 
-    ghost from_gives = { λ frame fault. fault ≡ cut_of frame };
+    ghost from_gives = { λ frame fault. fault ≡ sort_fault_of frame };
 
     fn from(frame: FrameFault) -> SortFault {
         let FrameFault::Cut { place } = frame;

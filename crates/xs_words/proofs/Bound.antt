@@ -1,5 +1,5 @@
 -- The first bad word stands near the front: there are no more different names than rows.
-use Rattle.std.proofs.Common.{◌≡◌, ◌≢◌, ℕ, zero, suc, ◌+◌, ◌*◌, ◌/◌, ◌<◌, ◌≤◌, Bool, true, false, cond, ◌||◌, eqb, List, Option, Some, None, map, length, get_or, refl, sym, ap, ◌∙◌, bytes_eq, codes, ◌&&◌, inl, inr, arith}
+use Rattle.std.proofs.Common.{◌≡◌, ◌≢◌, ℕ, zero, suc, ◌+◌, ◌*◌, ◌/◌, ◌<◌, ◌≤◌, Bool, true, false, cond, ◌||◌, eqb, List, [], Option, Some, None, map, length, get_or, refl, sym, ap, ◌∙◌, bytes_eq, codes, ◌&&◌, inl, inr, arith}
 use Rattle.std.specs.Prelude.{is_none, IfSome}
 use Rattle.std.specs.List.{AllByRecursion, IsDistinct, find, list_any, position_or_len, range_with_len}
 use Rattle.std.proofs.lemmas.Bool.Decides.{eqb_tells, leb_tells, nat_tests}
@@ -11,15 +11,18 @@ use Rattle.std.proofs.lemmas.Map.Steps.{length-le_from_distinct_below}
 use Rattle.std.proofs.lemmas.Option.{slice_get_past}
 use Rattle.std.proofs.lemmas.Slice.Eq.{bytes_eq-Decides}
 use Rattle.xs_lists.specs.Spelling.{upto}
-use Rattle.xs_words.specs.Table.{Row, decode_rows, encode_rows, form}
-use Rattle.xs_words.specs.Words.{bad_place, is_bad_name, is_bad_value, is_name_at, is_name_place, is_named_before, name_word, row_named, table_of, word_in}
+use Rattle.xs_words.specs.Table.{Row, decode_rows, encode_rows, required}
+use Rattle.xs_words.specs.Words.{bad_place, is_bad_name, is_bad_value, is_name_at, is_name_place, is_named_before, row_named, table_of, word_in}
 use Rattle.xs_words.proofs.Places.{stop}
 use Rattle.xs_words.proofs.BadPlace.{good_before}
 use Rattle.xs_words.proofs.Given.{neither}
 
+abbrev no_row : Row
+no_row = required []
+
 -- the place in the table of the row that a word names
 abbrev names : List ℕ → Row → Bool
-names word row = bytes_eq word (name_word row.name)
+names word row = bytes_eq word row.name
 
 abbrev seat_of : List Row → List ℕ → ℕ
 seat_of table word = position_or_len (names word) table
@@ -38,10 +41,10 @@ seat-below table word known = position-below (names word) table known
 
 same_seat : (table : List Row) (word other : List ℕ) → is_none (row_named table word) ≡ false → is_none (row_named table other) ≡ false → seat_of table word ≡ seat_of table other → word ≡ other
 same_seat table word other known also same =
-    let row = get_or table (seat_of table word) form in
-    let first = (bytes_eq-Decides word (name_word row.name)).0 (passes_at_first (names word) table form (seat-below table word known)) in
-    let second = (bytes_eq-Decides other (name_word (get_or table (seat_of table other) form).name)).0 (passes_at_first (names other) table form (seat-below table other also)) in
-    first ∙ ap (λ i. name_word (get_or table i form).name) same ∙ sym second
+    let row = get_or table (seat_of table word) no_row in
+    let first = (bytes_eq-Decides word row.name).0 (passes_at_first (names word) table no_row (seat-below table word known)) in
+    let second = (bytes_eq-Decides other (get_or table (seat_of table other) no_row).name).0 (passes_at_first (names other) table no_row (seat-below table other also)) in
+    first ∙ ap (λ i. (get_or table i no_row).name) same ∙ sym second
 
 apart_from : (f : ℕ → ℕ) (low n x : ℕ) → ((k : ℕ) → low ≤ k → k < low + n → x ≢ f k) → AllByRecursion (λ y. eqb x y ≡ false) (map f (range_with_len low n))
 apart_from f low zero x apart = tt
@@ -115,16 +118,16 @@ names_apart words table t j k above below same =
     let once = second.1 in
     cc
 
--- each table has at most nine rows
-few_rows : (word : List ℕ) (table : List Row) → table_of word ≡ Some table → length table ≤ 9
+-- each table has at most twenty rows
+few_rows : (word : List ℕ) (table : List Row) → table_of word ≡ Some table → length table ≤ 20
 few_rows word table = by_name (bytes_eq word (codes "encode")) (bytes_eq word (codes "decode"))
   where
-    by_name : (encode decode : Bool) → cond encode (Some encode_rows) (cond decode (Some decode_rows) None) ≡ Some table → length table ≤ 9
+    by_name : (encode decode : Bool) → cond encode (Some encode_rows) (cond decode (Some decode_rows) None) ≡ Some table → length table ≤ 20
     by_name true decode e = let same : encode_rows ≡ table = cc in omega (arith, ap length same)
     by_name false true e = let same : decode_rows ≡ table = cc in omega (arith, ap length same)
     by_name false false e = absurd (cc)
 
-near-where : (words : List (List ℕ)) (table : List Row) → table_of (word_in words 0) ≡ Some table → (found : Option ℕ) → bad_place words ≡ found → IfSome found (λ place. place ≤ 19)
+near-where : (words : List (List ℕ)) (table : List Row) → table_of (word_in words 0) ≡ Some table → (found : Option ℕ) → bad_place words ≡ found → IfSome found (λ place. place ≤ 41)
 near-where words table t None e = tt
 near-where words table t (Some place) e =
     let end : stop (length words) (bad_place words) ≡ place = ap (stop (length words)) e in
@@ -134,6 +137,6 @@ near-where words table t (Some place) e =
     (λ j k above below. names_apart words table t j k above (omega arith)) in
     omega arith
 
--- the first bad word of a command is one of the first twenty
-pub near : (words : List (List ℕ)) (table : List Row) → table_of (word_in words 0) ≡ Some table → IfSome (bad_place words) (λ place. place ≤ 19)
+-- the first bad word of a command is one of the first forty-two
+pub near : (words : List (List ℕ)) (table : List Row) → table_of (word_in words 0) ≡ Some table → IfSome (bad_place words) (λ place. place ≤ 41)
 near words table t = near-where words table t (bad_place words) refl

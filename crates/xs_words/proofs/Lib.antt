@@ -5,4 +5,5 @@ mod BadPlace
 mod Given
 mod Asked
 mod Bound
-mod Refused
+mod Commands
+mod Worked

@@ -1,10 +1,11 @@
 -- The options, and the rows of the table.
-use Rattle.std.proofs.Common.{◌≡◌, ℕ, Bool, true, false, cond, ◌||◌, List, [], ◌∷◌, Option, Some, None, map, refl, bytes_eq, Bor, ap, ◌∙◌}
+use Rattle.std.proofs.Common.{◌≡◌, ℕ, Bool, true, false, cond, ◌||◌, List, [], ◌∷◌, Option, Some, None, map, refl, bytes_eq, Bor, sym, ap, ◌∙◌}
+use Rattle.std.proofs.lemmas.Slice.Eq.{bytes_eq-Decides}
 use Rattle.std.specs.List.{find, list_any}
 use Rattle.std.specs.Option.{option_map, option_copied}
 use Rattle.xs_words.specs.Table.{Row}
-use Rattle.xs_words.specs.Words.{name_word, row_named}
-use Rattle.xs_words.specs.Options.{row_of_option}
+use Rattle.xs_words.specs.Words.{row_named}
+use Rattle.xs_words.specs.Options.{row_of_option, rows_of}
 use Rattle.xs_words.specs.declared.option.CommandOption.{CommandOption}
 
 -- a step of find, under a map
@@ -21,13 +22,24 @@ pub copied_is : {A : Type 0} (found : Option (Bor A)) → option_copied found �
 copied_is None = refl
 copied_is (Some x) = refl
 
-pub option_named : (options : List CommandOption) (table : List Row) (word : List ℕ) → map row_of_option options ≡ table
-    → option_map row_of_option (find (λ (o : CommandOption). bytes_eq word (name_word (row_of_option o).name)) options) ≡ row_named table word
-option_named options table word same = find-map row_of_option (λ (row : Row). bytes_eq word (name_word row.name)) options ∙ ap (λ rows. row_named rows word) same
+pub option_named : (options : List CommandOption) (word : List ℕ)
+    → option_map row_of_option (find (λ (o : CommandOption). bytes_eq word (row_of_option o).name) options) ≡ row_named (rows_of options) word
+option_named options word = find-map row_of_option (λ (row : Row). bytes_eq word row.name) options
 
-any-map : {A B : Type 0} (f : A → B) (p : B → Bool) (xs : List A) → list_any (λ x. p (f x)) xs ≡ list_any p (map f xs)
+pub any-map : {A B : Type 0} (f : A → B) (p : B → Bool) (xs : List A) → list_any (λ x. p (f x)) xs ≡ list_any p (map f xs)
 any-map f p [] = refl
 any-map f p (x ∷ xs) = ap (λ rest. p (f x) || rest) (any-map f p xs)
 
-pub any_option : (options : List CommandOption) (table : List Row) (test : Row → Bool) → map row_of_option options ≡ table → list_any (λ (o : CommandOption). test (row_of_option o)) options ≡ list_any test table
-any_option options table test same = any-map row_of_option test options ∙ ap (list_any test) same
+same_truth : (a b : Bool) → (a ≡ true → b ≡ true) → (b ≡ true → a ≡ true) → a ≡ b
+same_truth true b to from = sym (to refl)
+same_truth false true to from = absurd (cc (from refl))
+same_truth false false to from = refl
+
+equal_either_way : (a b : List ℕ) → bytes_eq a b ≡ bytes_eq b a
+equal_either_way a b =
+    same_truth (bytes_eq a b) (bytes_eq b a) (λ e. (bytes_eq-Decides b a).1 (sym ((bytes_eq-Decides a b).0 e))) (λ e. (bytes_eq-Decides a b).1 (sym ((bytes_eq-Decides b a).0 e)))
+
+-- whether a word is among others
+pub any_words : (words : List (Bor (List ℕ))) (word : List ℕ) → list_any (λ (w : Bor (List ℕ)). bytes_eq w.now word) words ≡ list_any (bytes_eq word) (map (λ (w : Bor (List ℕ)). w.now) words)
+any_words [] word = refl
+any_words (w ∷ words) word = ap (λ b. b || list_any (λ (w : Bor (List ℕ)). bytes_eq w.now word) words) (equal_either_way w.now word) ∙ ap (λ b. bytes_eq word w.now || b) (any_words words word)

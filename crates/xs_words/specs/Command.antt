@@ -1,49 +1,73 @@
 -- What a command asks for: 'Command words'. The numbers of settings may be too large for their fields.
-use Rattle.std.specs.Prelude.{ℕ, false, if◌then◌else◌, None, List, [], codes, bytes_eq}
-use Rattle.xs_layout.specs.declared.Format.TheVariants.{Mono}
-use Rattle.xs_layout.specs.declared.Quant.TheVariants.{DeadZone}
+use Rattle.std.specs.Prelude.{ℕ, Bool, ◌≤◌, ⊤, if◌then◌else◌, None, List, [], codes, bytes_eq}
+use Rattle.xs_layout.specs.Limits.{most_feeders, most_workers}
+use Rattle.xs_layout.specs.declared.Format.{Format}
+use Rattle.xs_layout.specs.declared.Format.TheVariants.{Mono, C422, C444}
+use Rattle.xs_layout.specs.declared.Quant.{Quant}
+use Rattle.xs_layout.specs.declared.Quant.TheVariants.{DeadZone, Uniform}
 use Rattle.xs_params.specs.declared.settings.Mode.TheVariants.{Slice}
 use Rattle.xs_params.specs.declared.settings.Settings.{Settings}
-use Rattle.xs_words.specs.Table.{Row}
-use Rattle.xs_words.specs.Table as option
 use Rattle.xs_words.specs.Words.{decimal_value, value_of, word_in}
+use Rattle.xs_words.specs.declared.command.Form.{Form}
+use Rattle.xs_words.specs.declared.command.Form.TheVariants.{Rtp, Xs}
 use Rattle.xs_words.specs.declared.command.Command.{Command}
 use Rattle.xs_words.specs.declared.command.Command.TheVariants.{Encode, Decode}
 
--- the settings of these numbers, with the defaults for all that has no word, or one word alone
-abbrev pub settings_with : (width height nlx nly slice share : ℕ) → Settings
-settings_with width height nlx nly slice share = record {
-  shape = record { width = width; height = height; format = Mono; depth = 8 };
-  bits = 20;
-  nlx = nlx;
-  nly = nly;
-  hsl = slice;
-  colour = false;
-  quant = DeadZone;
-  signs_apart = false;
+-- the number that an option is given, or has by default
+abbrev pub given_number : List (List ℕ) → List ℕ → ℕ
+given_number words name = decimal_value (value_of words name)
+
+-- the value of an option is this word
+abbrev pub is_given : List (List ℕ) → List ℕ → List ℕ → Bool
+is_given words name word = bytes_eq (value_of words name) word
+
+abbrev pub format_of : List (List ℕ) → Format
+format_of words = if is_given words (codes "--format") (codes "mono") then Mono else if is_given words (codes "--format") (codes "444") then C444 else C422
+
+abbrev pub quant_of : List (List ℕ) → Quant
+quant_of words = if is_given words (codes "--quant") (codes "deadzone") then DeadZone else Uniform
+
+abbrev pub form_of : List (List ℕ) → Form
+form_of words = if is_given words (codes "--form") (codes "xs") then Xs else Rtp
+
+-- the settings; weights, the unit of packets, boxes, feeders and the port have no words
+abbrev pub settings_of : List (List ℕ) → Settings
+settings_of words = record {
+  shape = record {
+    width = given_number words (codes "--width");
+    height = given_number words (codes "--height");
+    format = format_of words;
+    depth = given_number words (codes "--depth");
+  };
+  bits = given_number words (codes "--bits");
+  nlx = given_number words (codes "--nlx");
+  nly = given_number words (codes "--nly");
+  hsl = given_number words (codes "--slice");
+  colour = is_given words (codes "--colour") (codes "1");
+  quant = quant_of words;
+  signs_apart = is_given words (codes "--signs") (codes "apart");
   weights = None;
-  share = share;
-  fill = false;
-  chunk = 1400;
+  share = given_number words (codes "--share");
+  fill = is_given words (codes "--fill") (codes "1");
+  chunk = given_number words (codes "--chunk");
   mode = Slice;
-  payload_type = 96;
-  ssrc = 1;
-  first_timestamp = 0;
-  step = 1500;
+  payload_type = given_number words (codes "--pt");
+  ssrc = given_number words (codes "--ssrc");
+  first_timestamp = given_number words (codes "--time");
+  step = given_number words (codes "--step");
   boxes = [];
-  workers = 4;
+  workers = given_number words (codes "--workers");
   feeders = 2;
   port = 5004;
 }
 
--- the number that an option is given, or has by default
-abbrev pub given_number : List (List ℕ) → Row → ℕ
-given_number words row = decimal_value (value_of words row)
-
-abbrev pub settings_of : List (List ℕ) → Settings
-settings_of words =
-    settings_with (given_number words option.width) (given_number words option.height) (given_number words option.nlx) (given_number words option.nly) (given_number words option.slice) (given_number words option.share)
-
 -- what words that are a command ask for
 abbrev pub command_of : List (List ℕ) → Command
-command_of words = if bytes_eq (word_in words 0) (codes "decode") then Decode else Encode (settings_of words)
+command_of words =
+    if bytes_eq (word_in words 0) (codes "encode") then Encode (settings_of words) (form_of words)
+    else Decode (form_of words) (given_number words (codes "--workers")) (given_number words (codes "--feeders"))
+
+-- what a decoder is asked for is in range; of an encoder the settings say so themselves
+abbrev pub HasThreads : Command → Type 0
+HasThreads (Encode settings form) = ⊤
+HasThreads (Decode form workers feeders) = ((1 ≤ workers) × (workers ≤ most_workers)) × (1 ≤ feeders) × (feeders ≤ most_feeders)

@@ -1,23 +1,13 @@
--- The row of each option, and the table of each command: 'Command words'.
-use Rattle.std.specs.Prelude.{List}
-use Rattle.xs_words.specs.Table.{Row, encode_rows, decode_rows}
-use Rattle.xs_words.specs.Table as option
+-- The row that an option of the program is.
+use Rattle.std.specs.Prelude.{List, map}
+use Rattle.xs_words.specs.Table.{Row, required, number, choice}
 use Rattle.xs_words.specs.declared.option.CommandOption.{CommandOption}
-use Rattle.xs_words.specs.declared.option.CommandOption.TheVariants.{Form, Width, Height, Format, Nlx, Nly, Quant, Share, Slice}
-use Rattle.xs_words.specs.declared.option.Verb.{Verb}
-use Rattle.xs_words.specs.declared.option.Verb.TheVariants.{Encode, Decode}
+use Rattle.xs_words.specs.declared.option.CommandOption.TheVariants as option
 
 abbrev pub row_of_option : CommandOption → Row
-row_of_option Form = option.form
-row_of_option Width = option.width
-row_of_option Height = option.height
-row_of_option Format = option.format
-row_of_option Nlx = option.nlx
-row_of_option Nly = option.nly
-row_of_option Quant = option.quant
-row_of_option Share = option.share
-row_of_option Slice = option.slice
+row_of_option (option.Required name) = required name.now
+row_of_option (option.Number name default) = number name.now default.now
+row_of_option (option.Choice name words default) = choice name.now (map (λ word. word.now) words.now) default.now
 
-abbrev pub options_of : Verb → List Row
-options_of Encode = encode_rows
-options_of Decode = decode_rows
+abbrev pub rows_of : List CommandOption → List Row
+rows_of options = map row_of_option options

@@ -2,7 +2,7 @@
 use Rattle.std.specs.Prelude.{ℕ, Bool, Option, List, [], ◌∷◌}
 use Rattle.std.specs.Option.{option_map}
 use Rattle.xs_lists.specs.First.{first_of, first_some}
-use Rattle.xs_params.specs.Check.{setting_refusals}
+use Rattle.xs_params.specs.Check.{setting_refusals, thread_refusals}
 use Rattle.xs_params.specs.declared.settings.Setting.{Setting}
 use Rattle.xs_words.specs.Words.{bad_place}
 use Rattle.xs_words.specs.Command.{command_of}
@@ -11,10 +11,10 @@ use Rattle.xs_words.specs.declared.command.Command.TheVariants.{Encode, Decode}
 use Rattle.xs_words.specs.declared.command.Refusal.{Refusal}
 use Rattle.xs_words.specs.declared.command.Refusal.TheVariants as refusal
 
--- which settings of a command are refused; decoding has none
+-- which settings of a command are refused; decoding has workers and feeders alone
 abbrev pub refused_settings : Command → List (Bool × Setting)
-refused_settings (Encode settings) = setting_refusals settings
-refused_settings Decode = []
+refused_settings (Encode settings form) = setting_refusals settings
+refused_settings (Decode form workers feeders) = thread_refusals workers feeders
 
 -- the first bad word, and then the first setting that is refused
 abbrev pub refusal_of : List (List ℕ) → Option Refusal

@@ -6,48 +6,49 @@ pub data Kind : Type 0 where
   Number : Kind
   Choice : List (List ℕ) → Kind
 
--- an option: its name, what its value is, and the value that it has where it is not given; one without that is required
+-- an option: the word that names it, what its value is, and the value that it has where it is not given; one without that is required
 pub record Row : Type 0 where
   pub name : List ℕ
   pub kind : Kind
   pub default : Option (List ℕ)
 
-abbrev pub required : List ℕ → Kind → Row
-required name kind = record { name = name; kind = kind; default = None }
+abbrev pub required : List ℕ → Row
+required name = record { name = name; kind = Number; default = None }
 
 abbrev pub number : List ℕ → List ℕ → Row
 number name default = record { name = name; kind = Number; default = Some default }
 
-abbrev pub form : Row
-form = required (codes "form") (Choice (codes "xs" ∷ []))
+abbrev pub choice : List ℕ → List (List ℕ) → List ℕ → Row
+choice name words default = record { name = name; kind = Choice words; default = Some default }
 
-abbrev pub width : Row
-width = required (codes "width") Number
-
-abbrev pub height : Row
-height = required (codes "height") Number
-
-abbrev pub format : Row
-format = required (codes "format") (Choice (codes "mono" ∷ []))
-
-abbrev pub nlx : Row
-nlx = required (codes "nlx") Number
-
-abbrev pub nly : Row
-nly = required (codes "nly") Number
-
-abbrev pub quant : Row
-quant = required (codes "quant") (Choice (codes "deadzone" ∷ []))
-
-abbrev pub share : Row
-share = required (codes "share") Number
-
--- precincts in a slice
-abbrev pub slice : Row
-slice = number (codes "slice") (codes "4")
-
+-- a slice is so many precincts; `pt` is the RTP payload type, and `time` its first timestamp
 abbrev pub encode_rows : List Row
-encode_rows = form ∷ width ∷ height ∷ format ∷ nlx ∷ nly ∷ quant ∷ share ∷ slice ∷ []
+encode_rows =
+    required (codes "--width")
+    ∷ required (codes "--height")
+    ∷ required (codes "--share")
+    ∷ choice (codes "--format") (codes "mono" ∷ codes "422" ∷ codes "444" ∷ []) (codes "422")
+    ∷ number (codes "--depth") (codes "8")
+    ∷ number (codes "--bits") (codes "20")
+    ∷ number (codes "--nlx") (codes "5")
+    ∷ number (codes "--nly") (codes "2")
+    ∷ number (codes "--slice") (codes "4")
+    ∷ choice (codes "--colour") (codes "0" ∷ codes "1" ∷ []) (codes "0")
+    ∷ choice (codes "--quant") (codes "deadzone" ∷ codes "uniform" ∷ []) (codes "uniform")
+    ∷ choice (codes "--signs") (codes "in" ∷ codes "apart" ∷ []) (codes "in")
+    ∷ choice (codes "--fill") (codes "0" ∷ codes "1" ∷ []) (codes "0")
+    ∷ number (codes "--chunk") (codes "1400")
+    ∷ number (codes "--pt") (codes "96")
+    ∷ number (codes "--ssrc") (codes "1")
+    ∷ number (codes "--time") (codes "0")
+    ∷ number (codes "--step") (codes "1500")
+    ∷ choice (codes "--form") (codes "xs" ∷ []) (codes "xs")
+    ∷ number (codes "--workers") (codes "4")
+    ∷ []
 
 abbrev pub decode_rows : List Row
-decode_rows = form ∷ []
+decode_rows =
+    choice (codes "--form") (codes "xs" ∷ []) (codes "xs")
+    ∷ number (codes "--workers") (codes "4")
+    ∷ number (codes "--feeders") (codes "2")
+    ∷ []

@@ -1,5 +1,6 @@
 -- Which words are a command, and the place of the first that is not as it should be: 'Command words'.
-use Rattle.std.specs.Prelude.{ℕ, ◌+◌, ◌-◌, ◌%◌, ◌^◌, Bool, true, not, ◌&&◌, ◌||◌, nat_eq, nat_le, is_none, unwrap_or, if◌then◌else◌, Option, None, Some, List, [], ◌∷◌, ◌++◌, length, map, find, slice_index_or, codes, bytes_eq}
+use Rattle.std.specs.Prelude.{ℕ, ◌+◌, ◌-◌, ◌%◌, ◌^◌, Bool, true, false, not, ◌&&◌, ◌||◌, nat_eq, nat_le, is_none, unwrap_or, if◌then◌else◌, Option, None, Some, List, [], ◌∷◌, ◌++◌, length, map, find, slice_index_or, codes, bytes_eq}
+use Rattle.std.specs.Option.{option_and_then}
 use Rattle.std.specs.List.{list_any, range_with_len}
 use Rattle.std.specs.Str.{all_ascii_digits}
 use Rattle.std.specs.Str.Parse.{digits_value}
@@ -26,12 +27,9 @@ abbrev pub is_value : Kind → List ℕ → Bool
 is_value Number word = is_number word
 is_value (Choice words) word = list_any (bytes_eq word) words
 
--- the word that names an option
-abbrev pub name_word : List ℕ → List ℕ
-name_word name = codes "--" ++ name
-
+-- the option that a word names
 abbrev pub row_named : List Row → List ℕ → Option Row
-row_named table word = find (λ (row : Row). bytes_eq word (name_word row.name)) table
+row_named table word = find (λ (row : Row). bytes_eq word row.name) table
 
 -- names stand at the odd places, and values at the even ones after them
 abbrev pub is_name_place : ℕ → Bool
@@ -58,7 +56,7 @@ is_bad_word table words place = if is_name_place place then is_bad_name table wo
 
 -- the place of an option's name
 abbrev pub name_place : List (List ℕ) → List ℕ → Option ℕ
-name_place words name = find (is_name_at words (name_word name)) (upto (length words))
+name_place words name = find (is_name_at words name) (upto (length words))
 
 -- a required option is not among the words
 abbrev pub is_missing : List (List ℕ) → Row → Bool
@@ -80,6 +78,29 @@ word_refusals table words = map (λ place. (is_bad_word table words place, place
 abbrev pub bad_place : List (List ℕ) → Option ℕ
 bad_place words = elim (table_of (word_in words 0)) [ None ↦ Some 0 | Some table ↦ first_of (word_refusals table words) ]
 
+-- the default of an option in the table of the words' command
+abbrev pub default_of : List (List ℕ) → List ℕ → List ℕ
+default_of words name = unwrap_or (option_and_then (λ (row : Row). row.default) (option_and_then (λ table. row_named table name) (table_of (word_in words 0)))) []
+
 -- the value of an option: the word after its name, or else its default
-abbrev pub value_of : List (List ℕ) → Row → List ℕ
-value_of words row = elim (name_place words row.name) [ None ↦ unwrap_or row.default [] | Some place ↦ word_in words (place + 1) ]
+abbrev pub value_of : List (List ℕ) → List ℕ → List ℕ
+value_of words name = elim (name_place words name) [ None ↦ default_of words name | Some place ↦ word_in words (place + 1) ]
+
+-- Options of numbers
+
+-- the values are numbers, and so is the default if there is one
+abbrev pub has_number_by : Kind → Option (List ℕ) → Bool
+has_number_by Number None = true
+has_number_by Number (Some word) = is_number word
+has_number_by (Choice words) default = false
+
+abbrev pub has_number : Row → Bool
+has_number row = has_number_by row.kind row.default
+
+abbrev pub has_number_if : Option Row → Bool
+has_number_if None = false
+has_number_if (Some row) = has_number row
+
+-- the table has an option of numbers with this name
+abbrev pub is_numeric : List Row → List ℕ → Bool
+is_numeric table name = has_number_if (row_named table name)

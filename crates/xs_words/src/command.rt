@@ -1,30 +1,47 @@
 // What a command asks for.
-ghost use Rattle.std.specs.Prelude.{◌≡◌, None, Some, IfOk, map, true};
+ghost use Rattle.std.specs.Prelude.{◌≡◌, None, Some, IfOk, codes, map, true};
 ghost use Rattle.std.specs.Result.{result_err};
 ghost use Rattle.std.specs.String.{string_bytes};
 ghost use Rattle.xs_lists.specs.First.{first_of};
-ghost use Rattle.xs_params.specs.Check.{setting_refusals};
-ghost use Rattle.xs_words.specs.Command.{command_of, given_number, settings_of, settings_with};
-ghost use Rattle.xs_words.specs.Narrow.{as_asked, narrowed};
-ghost use Rattle.xs_words.specs.Options.{row_of_option};
-ghost use Rattle.xs_words.specs.Refusal.{refusal_of};
-ghost use Rattle.xs_words.specs.Table.{encode_rows};
-ghost use Rattle.xs_words.specs.Words.{bad_place, is_number, table_of, value_of, word_in};
+ghost use Rattle.xs_params.specs.Check.{setting_refusals, thread_refusals};
+ghost use Rattle.xs_words.specs.Command.{HasThreads, command_of, form_of, format_of, given_number, is_given, quant_of, settings_of};
+ghost use Rattle.xs_words.specs.Narrow.{as_asked, fitting, narrowed};
+ghost use Rattle.xs_words.specs.Refusal.{refusal_of, refused_settings};
+ghost use Rattle.xs_words.specs.Table.{decode_rows, encode_rows};
+ghost use Rattle.xs_words.specs.Words.{bad_place, is_number, is_numeric, table_of, value_of, word_in};
+ghost use Rattle.xs_words.specs.declared.command.Command.TheVariants.{Encode, Decode};
 
-use crate::grammar::{bad_place, value_of, verb_of};
-use crate::option::{CommandOption, Verb, number};
+use crate::grammar::{bad_place, value_of, word_in};
+use crate::option::number;
 use std::alloc::Global;
 use thiserror::Error;
 use xs_io::Octets;
+use xs_layout::limits::{MOST_FEEDERS, MOST_WORKERS};
 use xs_params::{Checked, Field, Format, Mode, Quant, Setting, Settings, Shape};
+
+/// How codestreams travel.
+#[derive(Clone, Copy, Debug, PartialEq, Eq)]
+pub enum Form {
+    /// In a capture of RTP packets.
+    Rtp,
+    /// One after the other.
+    Xs,
+}
 
 /// What words ask for.
 #[derive(Debug, Drop)]
 pub enum Command {
-    /// One raw picture is to become a codestream, with these settings.
-    Encode(Checked),
-    /// One codestream is to become a raw picture.
-    Decode,
+    /// Raw pictures are to become codestreams.
+    Encode {
+        settings: Checked,
+        form: Form,
+    },
+    /// Codestreams are to become raw pictures.
+    Decode {
+        form: Form,
+        workers: u32,
+        feeders: u32,
+    },
 }
 
 /// Why a command is refused.
@@ -42,126 +59,211 @@ pub enum Refusal {
 pub fn command_of(alloc: Global, words: &[String]) -> Result<Command, Refusal>
     ensures refused { result_err result ≡ refusal_of (map string_bytes words.now) }
     ensures asked { IfOk result (λ command. command ≡ command_of (map string_bytes words.now)) }
+    ensures threads { IfOk result HasThreads }
 {
-    let Some(verb) = verb_of(words) else {
-        return Err(Refusal::Words { place: 0 });
-    };
-    if let Some(place) = bad_place(verb, words) {
+    if let Some(place) = bad_place(words) {
         return Err(Refusal::Words {
             place: place as u32,
         });
     }
-    match verb {
-        Verb::Encode => match checked_settings(alloc, words) {
-            Ok(settings) => Ok(Command::Encode(settings)),
-            Err(setting) => Err(Refusal::Setting(setting)),
-        },
-        Verb::Decode => Ok(Command::Decode),
+    match asked(alloc, words) {
+        Ok(command) => Ok(command),
+        Err(setting) => Err(Refusal::Setting(setting)),
     }
 }
 
-/// The settings that words ask for, checked; or the first that is refused, with the value that was asked for.
-fn checked_settings(alloc: Global, words: &[String]) -> Result<Checked, Setting>
+/// What words that are a command ask for.
+fn asked(alloc: Global, words: &[String]) -> Result<Command, Setting>
+    requires whole { bad_place (map string_bytes words.now) ≡ None }
+    ensures refused { result_err result ≡ first_of (refused_settings (command_of (map string_bytes words.now))) }
+    ensures asked { IfOk result (λ command. command ≡ command_of (map string_bytes words.now)) }
+    ensures threads { IfOk result HasThreads }
+{
+    match word_in(words, 0) {
+        "encode" => encoding(alloc, words),
+        _ => decoding(words),
+    }
+}
+
+/// What words of `encode` ask for.
+fn encoding(alloc: Global, words: &[String]) -> Result<Command, Setting>
     requires encode { table_of (word_in (map string_bytes words.now) 0) ≡ Some encode_rows }
     requires whole { bad_place (map string_bytes words.now) ≡ None }
     ensures refused { result_err result ≡ first_of (setting_refusals (settings_of (map string_bytes words.now))) }
-    ensures settings { IfOk result (λ checked. checked ≡ settings_of (map string_bytes words.now)) }
+    ensures asked { IfOk result (λ command. command ≡ Encode (settings_of (map string_bytes words.now)) (form_of (map string_bytes words.now))) }
 {
-    let numbers = Numbers::given(words);
-    match numbers.settings(alloc).check() {
-        Ok(checked) => Ok(checked),
-        Err(setting) => Err(numbers.as_asked(setting)),
+    match settings_of(alloc, words).check() {
+        Ok(settings) => Ok(Command::Encode {
+            settings,
+            form: form_of(words),
+        }),
+        Err(setting) => Err(as_asked(words, setting)),
     }
 }
 
-/// The numbers of a command, which may be too large for their settings.
-#[derive(Clone, Copy)]
-struct Numbers {
-    width: u32,
-    height: u32,
-    nlx: u32,
-    nly: u32,
-    slice: u32,
-    share: u32,
+/// What words of `decode` ask for.
+fn decoding(words: &[String]) -> Result<Command, Setting>
+    requires decode { table_of (word_in (map string_bytes words.now) 0) ≡ Some decode_rows }
+    requires whole { bad_place (map string_bytes words.now) ≡ None }
+    ensures refused { result_err result ≡ first_of (thread_refusals (given_number (map string_bytes words.now) (codes "--workers")) (given_number (map string_bytes words.now) (codes "--feeders"))) }
+    ensures asked { IfOk result (λ command. command ≡ Decode (form_of (map string_bytes words.now)) (given_number (map string_bytes words.now) (codes "--workers")) (given_number (map string_bytes words.now) (codes "--feeders"))) }
+{
+    let workers = number_of(words, "--workers");
+    let feeders = number_of(words, "--feeders");
+    match thread_refusal(workers, feeders) {
+        Some(setting) => Err(setting),
+        None => Ok(Command::Decode {
+            form: form_of(words),
+            workers,
+            feeders,
+        }),
+    }
 }
 
-impl Numbers {
-    fn given(words: &[String]) -> Numbers
-        requires encode { table_of (word_in (map string_bytes words.now) 0) ≡ Some encode_rows }
-        requires whole { bad_place (map string_bytes words.now) ≡ None }
-        ensures { settings_with result.width result.height result.nlx result.nly result.slice result.share ≡ settings_of (map string_bytes words.now) }
-    {
-        let width = given_number(words, CommandOption::Width);
-        let height = given_number(words, CommandOption::Height);
-        let nlx = given_number(words, CommandOption::Nlx);
-        let nly = given_number(words, CommandOption::Nly);
-        let slice = given_number(words, CommandOption::Slice);
-        let share = given_number(words, CommandOption::Share);
-        Numbers {
-            width,
-            height,
-            nlx,
-            nly,
-            slice,
-            share,
-        }
+fn thread_refusal(workers: u32, feeders: u32) -> Option<Setting>
+    ensures { result ≡ first_of (thread_refusals workers feeders) }
+{
+    if !(1..=u32::from(MOST_WORKERS)).contains(&workers) {
+        return Some(Setting {
+            field: Field::Workers,
+            value: u64::from(workers),
+        });
     }
+    if !(1..=u32::from(MOST_FEEDERS)).contains(&feeders) {
+        return Some(Setting {
+            field: Field::Feeders,
+            value: u64::from(feeders),
+        });
+    }
+    None
+}
 
-    /// The settings. A number that its field has no room for becomes one that is refused in the same place.
-    fn settings(&self, alloc: Global) -> Settings
-        ensures { result ≡ narrowed (settings_with self.now.width self.now.height self.now.nlx self.now.nly self.now.slice self.now.share) }
-    {
-        Settings {
-            shape: Shape {
-                width: self.width,
-                height: self.height,
-                format: Format::Mono,
-                depth: 8,
-            },
-            bits: 20,
-            nlx: u8::try_from(self.nlx).unwrap_or(u8::MAX),
-            nly: u8::try_from(self.nly).unwrap_or(u8::MAX),
-            hsl: u16::try_from(self.slice).unwrap_or(0),
-            colour: false,
-            quant: Quant::DeadZone,
-            signs_apart: false,
-            weights: None,
-            share: self.share,
-            fill: false,
-            chunk: 1400,
-            mode: Mode::Slice,
-            payload_type: 96,
-            ssrc: 1,
-            first_timestamp: 0,
-            step: 1500,
-            boxes: Octets::new(alloc),
-            workers: 4,
-            feeders: 2,
-            port: 5004,
-        }
+/// The settings that words of `encode` ask for. A number that its field has no room for becomes one that is refused in
+/// the same place.
+fn settings_of(alloc: Global, words: &[String]) -> Settings
+    requires encode { table_of (word_in (map string_bytes words.now) 0) ≡ Some encode_rows }
+    requires whole { bad_place (map string_bytes words.now) ≡ None }
+    ensures { result ≡ narrowed (settings_of (map string_bytes words.now)) }
+{
+    Settings {
+        shape: shape_of(words),
+        bits: byte_of(words, "--bits"),
+        nlx: byte_of(words, "--nlx"),
+        nly: byte_of(words, "--nly"),
+        hsl: u16::try_from(encode_number(words, "--slice")).unwrap_or(0),
+        colour: is_given(words, "--colour", "1"),
+        quant: quant_of(words),
+        signs_apart: is_given(words, "--signs", "apart"),
+        weights: None,
+        share: encode_number(words, "--share"),
+        fill: is_given(words, "--fill", "1"),
+        chunk: encode_number(words, "--chunk"),
+        mode: Mode::Slice,
+        payload_type: byte_of(words, "--pt"),
+        ssrc: encode_number(words, "--ssrc"),
+        first_timestamp: encode_number(words, "--time"),
+        step: encode_number(words, "--step"),
+        boxes: Octets::new(alloc),
+        workers: byte_of(words, "--workers"),
+        feeders: 2,
+        port: 5004,
     }
+}
 
-    /// The refused setting with the value that was asked for.
-    fn as_asked(&self, setting: Setting) -> Setting
-        ensures { result ≡ as_asked (settings_with self.now.width self.now.height self.now.nlx self.now.nly self.now.slice self.now.share) setting }
-    {
-        let value = match setting.field {
-            Field::Nlx => u64::from(self.nlx),
-            Field::Nly => u64::from(self.nly),
-            Field::Hsl => u64::from(self.slice),
-            _ => setting.value,
-        };
-        Setting {
-            field: setting.field,
-            value,
-        }
+fn shape_of(words: &[String]) -> Shape
+    requires encode { table_of (word_in (map string_bytes words.now) 0) ≡ Some encode_rows }
+    requires whole { bad_place (map string_bytes words.now) ≡ None }
+    ensures { result ≡ (narrowed (settings_of (map string_bytes words.now))).shape }
+{
+    Shape {
+        width: encode_number(words, "--width"),
+        height: encode_number(words, "--height"),
+        format: format_of(words),
+        depth: byte_of(words, "--depth"),
     }
+}
+
+fn format_of(words: &[String]) -> Format
+    ensures { result ≡ format_of (map string_bytes words.now) }
+{
+    match value_of(words, "--format") {
+        "mono" => Format::Mono,
+        "444" => Format::C444,
+        _ => Format::C422,
+    }
+}
+
+fn quant_of(words: &[String]) -> Quant
+    ensures { result ≡ quant_of (map string_bytes words.now) }
+{
+    match value_of(words, "--quant") {
+        "deadzone" => Quant::DeadZone,
+        _ => Quant::Uniform,
+    }
+}
+
+fn form_of(words: &[String]) -> Form
+    ensures { result ≡ form_of (map string_bytes words.now) }
+{
+    match value_of(words, "--form") {
+        "xs" => Form::Xs,
+        _ => Form::Rtp,
+    }
+}
+
+/// Whether the value of an option is this word.
+fn is_given(words: &[String], name: &str, word: &str) -> bool
+    ensures { result ≡ is_given (map string_bytes words.now) name.now word.now }
+{
+    value_of(words, name) == word
+}
+
+/// A refused setting of `encode` with the value that was asked for.
+fn as_asked(words: &[String], setting: Setting) -> Setting
+    requires encode { table_of (word_in (map string_bytes words.now) 0) ≡ Some encode_rows }
+    requires whole { bad_place (map string_bytes words.now) ≡ None }
+    ensures { result ≡ as_asked (settings_of (map string_bytes words.now)) setting }
+{
+    let value = match setting.field {
+        Field::Depth => u64::from(encode_number(words, "--depth")),
+        Field::Bits => u64::from(encode_number(words, "--bits")),
+        Field::Nlx => u64::from(encode_number(words, "--nlx")),
+        Field::Nly => u64::from(encode_number(words, "--nly")),
+        Field::Hsl => u64::from(encode_number(words, "--slice")),
+        Field::PayloadType => u64::from(encode_number(words, "--pt")),
+        Field::Workers => u64::from(encode_number(words, "--workers")),
+        _ => setting.value,
+    };
+    Setting {
+        field: setting.field,
+        value,
+    }
+}
+
+/// The number that an option of `encode` is given, or has by default; 255 where it has more than 8 bits.
+fn byte_of(words: &[String], name: &str) -> u8
+    requires encode { table_of (word_in (map string_bytes words.now) 0) ≡ Some encode_rows }
+    requires whole { bad_place (map string_bytes words.now) ≡ None }
+    requires number { is_numeric encode_rows name.now ≡ true }
+    ensures { result ≡ fitting 8 255 (given_number (map string_bytes words.now) name.now) }
+{
+    u8::try_from(encode_number(words, name)).unwrap_or(u8::MAX)
+}
+
+/// The number that an option of `encode` is given, or has by default.
+fn encode_number(words: &[String], name: &str) -> u32
+    requires encode { table_of (word_in (map string_bytes words.now) 0) ≡ Some encode_rows }
+    requires whole { bad_place (map string_bytes words.now) ≡ None }
+    requires number { is_numeric encode_rows name.now ≡ true }
+    ensures { result ≡ given_number (map string_bytes words.now) name.now }
+{
+    number_of(words, name)
 }
 
 /// The number that an option is given, or has by default.
-fn given_number(words: &[String], option: CommandOption) -> u32
-    requires { is_number (value_of (map string_bytes words.now) (row_of_option option)) ≡ true }
-    ensures { result ≡ given_number (map string_bytes words.now) (row_of_option option) }
+fn number_of(words: &[String], name: &str) -> u32
+    requires { is_number (value_of (map string_bytes words.now) name.now) ≡ true }
+    ensures { result ≡ given_number (map string_bytes words.now) name.now }
 {
-    number(value_of(words, option)).unwrap()
+    number(value_of(words, name)).unwrap()
 }

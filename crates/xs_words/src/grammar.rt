@@ -1,33 +1,36 @@
 // Which words are a command.
-ghost use Rattle.std.specs.Prelude.{◌≡◌, ◌<◌, find, length, map, IfSome, Some};
-ghost use Rattle.std.specs.Option.{option_map};
+ghost use Rattle.std.specs.Prelude.{◌≡◌, ◌<◌, ◌≤◌, find, length, map, IfSome, Some};
 ghost use Rattle.std.specs.List.{list_any};
 ghost use Rattle.std.specs.String.{string_bytes};
-ghost use Rattle.xs_words.specs.Options.{row_of_option, options_of};
-ghost use Rattle.xs_words.specs.Words.{bad_place, end_early, is_bad_name, is_bad_value, is_bad_word, is_missing, is_name_at, is_name_place, is_named_before, name_place, places_of_words, table_of, value_of, word_in};
+ghost use Rattle.xs_words.specs.Options.{row_of_option, rows_of};
+ghost use Rattle.xs_words.specs.Words.{bad_place, default_of, end_early, is_bad_name, is_bad_value, is_bad_word, is_missing, is_name_at, is_name_place, is_named_before, name_place, places_of_words, table_of, value_of, word_in};
 
-use crate::option::{CommandOption, Verb};
-
-/// The command that the first word begins.
-pub fn verb_of(words: &[String]) -> Option<Verb>
-    ensures { option_map options_of result ≡ table_of (word_in (map string_bytes words.now) 0) }
-{
-    Verb::named(word_in(words, 0))
-}
+use crate::option::{CommandOption, option_named, table_of};
 
 /// The place of the first word that is not as the command asks, or the number of words where they end too early.
-pub fn bad_place(verb: Verb, words: &[String]) -> Option<usize>
-    requires { table_of (word_in (map string_bytes words.now) 0) ≡ Some (options_of verb) }
+pub fn bad_place(words: &[String]) -> Option<usize>
+    ensures place { result ≡ bad_place (map string_bytes words.now) }
+    ensures near { IfSome result (λ place. place ≤ 41) }
+{
+    match table_of(word_in(words, 0)) {
+        Some(options) => bad_place_after(options, words),
+        None => Some(0),
+    }
+}
+
+/// The same, where the first word is the command of these options.
+fn bad_place_after(options: &'static [CommandOption], words: &[String]) -> Option<usize>
+    requires { table_of (word_in (map string_bytes words.now) 0) ≡ Some (rows_of options.now) }
     ensures { result ≡ bad_place (map string_bytes words.now) }
 {
-    match first_bad_word(verb, words) {
+    match first_bad_word(options, words) {
         Some(place) => Some(place),
-        None => ends_early(verb, words).then_some(words.len()),
+        None => ends_early(options, words).then_some(words.len()),
     }
 }
 
 /// The word at a place, and an empty one past the end.
-fn word_in(words: &[String], place: usize) -> &str
+pub fn word_in(words: &[String], place: usize) -> &str
     ensures { result.now ≡ word_in (map string_bytes words.now) place }
 {
     match words.get(place) {
@@ -37,68 +40,79 @@ fn word_in(words: &[String], place: usize) -> &str
 }
 
 /// The value of an option: the word after its name, or else its default.
-pub fn value_of(words: &[String], option: CommandOption) -> &str
-    ensures { result.now ≡ value_of (map string_bytes words.now) (row_of_option option) }
+pub fn value_of<'a>(words: &'a [String], name: &str) -> &'a str
+    ensures { result.now ≡ value_of (map string_bytes words.now) name.now }
 {
-    match name_place(words, option) {
+    match name_place(words, name) {
         Some(place) => word_in(words, place + 1),
-        None => option.default_value(),
+        None => default_of(words, name),
+    }
+}
+
+/// The default of an option of the words' command.
+fn default_of(words: &[String], name: &str) -> &'static str
+    ensures { result.now ≡ default_of (map string_bytes words.now) name.now }
+{
+    let Some(options) = table_of(word_in(words, 0)) else {
+        return "";
+    };
+    match option_named(options, name) {
+        Some(option) => option.default().unwrap_or(""),
+        None => "",
     }
 }
 
 /// The place of the first word after the command that is not as it should be.
-fn first_bad_word(verb: Verb, words: &[String]) -> Option<usize>
-    ensures { result ≡ find (is_bad_word (options_of verb) (map string_bytes words.now)) (places_of_words (map string_bytes words.now)) }
+fn first_bad_word(options: &'static [CommandOption], words: &[String]) -> Option<usize>
+    ensures { result ≡ find (is_bad_word (rows_of options.now) (map string_bytes words.now)) (places_of_words (map string_bytes words.now)) }
 {
-    (1..words.len()).find(|place| is_bad_word(verb, words, *place))
+    (1..words.len()).find(|place| is_bad_word(options, words, *place))
 }
 
 /// Whether the words end where a value is missing, or without a required option.
-fn ends_early(verb: Verb, words: &[String]) -> bool
-    ensures { result ≡ end_early (options_of verb) (map string_bytes words.now) }
+fn ends_early(options: &[CommandOption], words: &[String]) -> bool
+    ensures { result ≡ end_early (rows_of options.now) (map string_bytes words.now) }
 {
-    words.len() % 2 == 0 || lacks_option(verb, words)
+    words.len() % 2 == 0 || lacks_option(options, words)
 }
 
 /// Whether a required option is not among the words.
-fn lacks_option(verb: Verb, words: &[String]) -> bool
-    ensures { result ≡ list_any (is_missing (map string_bytes words.now)) (options_of verb) }
+fn lacks_option(options: &[CommandOption], words: &[String]) -> bool
+    ensures { result ≡ list_any (is_missing (map string_bytes words.now)) (rows_of options.now) }
 {
-    verb.options()
-        .iter()
-        .any(|option| is_missing(words, *option))
+    options.iter().any(|option| is_missing(words, *option))
 }
 
 fn is_missing(words: &[String], option: CommandOption) -> bool
     ensures { result ≡ is_missing (map string_bytes words.now) (row_of_option option) }
 {
-    option.is_required() && name_place(words, option).is_none()
+    option.default().is_none() && name_place(words, option.name()).is_none()
 }
 
 /// The place of an option's name.
-fn name_place(words: &[String], option: CommandOption) -> Option<usize>
-    ensures place { result ≡ name_place (map string_bytes words.now) (row_of_option option).name }
+fn name_place(words: &[String], name: &str) -> Option<usize>
+    ensures place { result ≡ name_place (map string_bytes words.now) name.now }
     ensures within { IfSome result (λ place. place < length words.now) }
 {
-    (0..words.len()).find(|place| is_name_at(words, option.word(), *place))
+    (0..words.len()).find(|place| is_name_at(words, name, *place))
 }
 
-fn is_bad_word(verb: Verb, words: &[String], place: usize) -> bool
-    ensures { result ≡ is_bad_word (options_of verb) (map string_bytes words.now) place }
+fn is_bad_word(options: &'static [CommandOption], words: &[String], place: usize) -> bool
+    ensures { result ≡ is_bad_word (rows_of options.now) (map string_bytes words.now) place }
 {
     if is_name_place(place) {
-        is_bad_name(verb, words, place)
+        is_bad_name(options, words, place)
     } else {
-        is_bad_value(verb, words, place)
+        is_bad_value(options, words, place)
     }
 }
 
 /// Whether the word names no option, or one that was named before.
-fn is_bad_name(verb: Verb, words: &[String], place: usize) -> bool
-    ensures { result ≡ is_bad_name (options_of verb) (map string_bytes words.now) place }
+fn is_bad_name(options: &'static [CommandOption], words: &[String], place: usize) -> bool
+    ensures { result ≡ is_bad_name (rows_of options.now) (map string_bytes words.now) place }
 {
     let word = word_in(words, place);
-    verb.option_named(word).is_none() || is_named_before(words, word, place)
+    option_named(options, word).is_none() || is_named_before(words, word, place)
 }
 
 /// Whether the word stands as a name before the place.
@@ -109,10 +123,10 @@ fn is_named_before(words: &[String], word: &str, place: usize) -> bool
 }
 
 /// Whether the word is no value of the option before it.
-fn is_bad_value(verb: Verb, words: &[String], place: usize) -> bool
-    ensures { result ≡ is_bad_value (options_of verb) (map string_bytes words.now) place }
+fn is_bad_value(options: &'static [CommandOption], words: &[String], place: usize) -> bool
+    ensures { result ≡ is_bad_value (rows_of options.now) (map string_bytes words.now) place }
 {
-    match verb.option_named(word_in(words, place.saturating_sub(1))) {
+    match option_named(options, word_in(words, place.saturating_sub(1))) {
         Some(option) => !option.takes(word_in(words, place)),
         None => true,
     }

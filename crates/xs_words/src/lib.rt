@@ -5,4 +5,4 @@ mod command;
 mod grammar;
 mod option;
 
-pub use command::{Command, Refusal, command_of};
+pub use command::{Command, Form, Refusal, command_of};

@@ -1,112 +1,84 @@
 // Commands and their options.
-ghost use Rattle.std.specs.Prelude.{◌≡◌, ◌++◌, codes, if◌then◌else◌, None, Some, is_none, map, unwrap_or, []};
+ghost use Rattle.std.specs.Prelude.{◌≡◌, if◌then◌else◌, None, Some};
 ghost use Rattle.std.specs.Option.{option_map};
 ghost use Rattle.std.specs.Str.{all_ascii_digits};
-ghost use Rattle.xs_words.specs.Options.{row_of_option, options_of};
-ghost use Rattle.xs_words.specs.Words.{is_number, is_value, name_word, decimal_value, row_named, table_of};
+ghost use Rattle.xs_words.specs.Options.{row_of_option, rows_of};
+ghost use Rattle.xs_words.specs.Words.{is_number, is_value, decimal_value, row_named, table_of};
 
-/// What a command does: its first word.
-#[derive(Clone, Copy, Debug, PartialEq, Eq)]
-pub enum Verb {
-    Encode,
-    Decode,
-}
-
-impl Verb {
-    /// The command that a word begins.
-    pub fn named(word: &str) -> Option<Verb>
-        ensures { option_map options_of result ≡ table_of word.now }
-    {
-        if word == "encode" {
-            Some(Verb::Encode)
-        } else if word == "decode" {
-            Some(Verb::Decode)
-        } else {
-            None
-        }
-    }
-
-    /// The options of the command.
-    pub fn options(self) -> &'static [CommandOption]
-        ensures { map row_of_option result.now ≡ options_of self }
-    {
-        match self {
-            Verb::Encode => &CommandOption::ENCODE,
-            Verb::Decode => &CommandOption::DECODE,
-        }
-    }
-
-    /// The option that a word names.
-    pub fn option_named(self, word: &str) -> Option<CommandOption>
-        ensures { option_map row_of_option result ≡ row_named (options_of self) word.now }
-    {
-        self.options()
-            .iter()
-            .find(|option| word == option.word())
-            .copied()
-    }
-}
-
-/// An option of a command.
-#[derive(Clone, Copy, Debug, PartialEq, Eq)]
+/// An option of a command: the word that names it, and its default.
+#[derive(Clone, Copy)]
 pub enum CommandOption {
-    Form,
-    Width,
-    Height,
-    Format,
-    Nlx,
-    Nly,
-    Quant,
-    Share,
-    Slice,
+    /// A number; the words are no command without it.
+    Required(&'static str),
+    Number(&'static str, &'static str),
+    /// One of the words in the middle.
+    Choice(&'static str, &'static [&'static str], &'static str),
+}
+
+use CommandOption::{Choice, Number, Required};
+
+static ENCODE: [CommandOption; 20] = [
+    Required("--width"),
+    Required("--height"),
+    Required("--share"),
+    Choice("--format", &["mono", "422", "444"], "422"),
+    Number("--depth", "8"),
+    Number("--bits", "20"),
+    Number("--nlx", "5"),
+    Number("--nly", "2"),
+    Number("--slice", "4"),
+    Choice("--colour", &["0", "1"], "0"),
+    Choice("--quant", &["deadzone", "uniform"], "uniform"),
+    Choice("--signs", &["in", "apart"], "in"),
+    Choice("--fill", &["0", "1"], "0"),
+    Number("--chunk", "1400"),
+    Number("--pt", "96"),
+    Number("--ssrc", "1"),
+    Number("--time", "0"),
+    Number("--step", "1500"),
+    Choice("--form", &["xs"], "xs"),
+    Number("--workers", "4"),
+];
+
+static DECODE: [CommandOption; 3] = [
+    Choice("--form", &["xs"], "xs"),
+    Number("--workers", "4"),
+    Number("--feeders", "2"),
+];
+
+/// The options of the command that a word begins.
+pub fn table_of(word: &str) -> Option<&'static [CommandOption]>
+    ensures { option_map (λ options. rows_of options.now) result ≡ table_of word.now }
+{
+    match word {
+        "encode" => Some(&ENCODE),
+        "decode" => Some(&DECODE),
+        _ => None,
+    }
+}
+
+/// The option that a word names.
+pub fn option_named(options: &'static [CommandOption], word: &str) -> Option<CommandOption>
+    ensures { option_map row_of_option result ≡ row_named (rows_of options.now) word.now }
+{
+    options.iter().find(|option| word == option.name()).copied()
 }
 
 impl CommandOption {
-    const ENCODE: [CommandOption; 9] = [
-        CommandOption::Form,
-        CommandOption::Width,
-        CommandOption::Height,
-        CommandOption::Format,
-        CommandOption::Nlx,
-        CommandOption::Nly,
-        CommandOption::Quant,
-        CommandOption::Share,
-        CommandOption::Slice,
-    ];
-
-    const DECODE: [CommandOption; 1] = [CommandOption::Form];
-
-    /// The word that names the option.
-    pub fn word(self) -> &'static str
-        ensures { result.now ≡ name_word (row_of_option self).name }
+    pub fn name(self) -> &'static str
+        ensures { result.now ≡ (row_of_option self).name }
     {
         match self {
-            CommandOption::Form => "--form",
-            CommandOption::Width => "--width",
-            CommandOption::Height => "--height",
-            CommandOption::Format => "--format",
-            CommandOption::Nlx => "--nlx",
-            CommandOption::Nly => "--nly",
-            CommandOption::Quant => "--quant",
-            CommandOption::Share => "--share",
-            CommandOption::Slice => "--slice",
+            Required(name) | Number(name, _) | Choice(name, _, _) => name,
         }
     }
 
-    /// Whether the words are no command without the option.
-    pub fn is_required(self) -> bool
-        ensures { result ≡ is_none (row_of_option self).default }
-    {
-        self != CommandOption::Slice
-    }
-
-    /// The value of the option where it is not given.
-    pub fn default_value(self) -> &'static str
-        ensures { result.now ≡ unwrap_or (row_of_option self).default [] }
+    pub fn default(self) -> Option<&'static str>
+        ensures { option_map (λ word. word.now) result ≡ (row_of_option self).default }
     {
         match self {
-            CommandOption::Slice => "4",
-            _ => "",
+            Required(_) => None,
+            Number(_, default) | Choice(_, _, default) => Some(default),
         }
     }
 
@@ -115,15 +87,8 @@ impl CommandOption {
         ensures { result ≡ is_value (row_of_option self).kind value.now }
     {
         match self {
-            CommandOption::Form => value == "xs",
-            CommandOption::Format => value == "mono",
-            CommandOption::Quant => value == "deadzone",
-            CommandOption::Width
-            | CommandOption::Height
-            | CommandOption::Nlx
-            | CommandOption::Nly
-            | CommandOption::Share
-            | CommandOption::Slice => number(value).is_some(),
+            Required(_) | Number(_, _) => number(value).is_some(),
+            Choice(_, words, _) => words.contains(&value),
         }
     }
 }

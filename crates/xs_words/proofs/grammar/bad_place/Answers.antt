@@ -1,24 +1,17 @@
-use Rattle.std.proofs.Common.{◌∙◌, ap, sym, map, length}
-use Rattle.std.specs.Bool.{then_some}
+use Rattle.std.proofs.Common.{◌≡◌, ◌≤◌, map, ℕ, List, Option, Some, Bor, ap, subst, sym, ◌∙◌}
+use Rattle.std.specs.Prelude.{IfSome}
+use Rattle.std.specs.Option.{option_map}
 use Rattle.std.specs.String.{string_bytes}
-use Rattle.std.proofs.lemmas.List.{length-map}
-use Rattle.xs_words.specs.Options.{options_of}
-use Rattle.xs_words.specs.Words.{end_early}
-use Rattle.xs_words.proofs.Places.{or_end}
-use Rattle.xs_words.proofs.BadPlace.{place_after_command, then_some_is}
+use Rattle.xs_words.specs.Options.{rows_of}
+use Rattle.xs_words.specs.Words.{table_of, word_in}
+use Rattle.xs_words.specs.declared.option.CommandOption.{CommandOption}
+use Rattle.xs_words.proofs.Bound.{near}
 use Rattle.xs_words.proofs.grammar.bad_place.Goals as goal
 
-pub returns-in-Some : goal.returns-in-Some
-returns-in-Some c =
+pub returns-in-Some-clause-near : goal.returns-in-Some-clause-near
+returns-in-Some-clause-near c =
     let words = map string_bytes c.args.words.now in
-    let table = options_of c.args.verb in
-    ap (or_end (end_early table words) (length words)) (sym c.in-Some.is ∙ c.first_bad_word.ensures) ∙ sym (place_after_command words table c.requires)
-
-pub returns-in-None : goal.returns-in-None
-returns-in-None c =
-    let words = map string_bytes c.args.words.now in
-    let table = options_of c.args.verb in
-    let early = end_early table words in
-    let size = length-map c.args.words.now string_bytes in
-    c.then_some.ensures ∙ ap (λ b. then_some b (length c.args.words.now)) c.ends_early.ensures ∙ ap (then_some early) (sym size) ∙ then_some_is early (length words)
-    ∙ ap (or_end early (length words)) (sym c.in-None.is ∙ c.first_bad_word.ensures) ∙ sym (place_after_command words table c.requires)
+    let options = c.in-Some.options.now in
+    let table : table_of (word_in words 0) ≡ Some (rows_of options) =
+    ap table_of (sym c.word_in.ensures) ∙ sym c.table_of.ensures ∙ ap (option_map (λ (o : Bor (List CommandOption)). rows_of o.now)) c.in-Some.is in
+    subst (λ (o : Option ℕ). IfSome o (λ place. place ≤ 41)) (sym c.bad_place_after.ensures) (near words (rows_of options) table)
