@@ -1,0 +1,13 @@
+pub mod Slots
+pub mod Filing
+pub mod Wholes
+pub mod Sizes
+pub mod Joined
+pub mod Pictures
+pub mod Headers
+pub mod Sent
+pub mod Ascending
+pub mod Samples
+pub mod OneAnswer
+pub mod Dealt
+pub mod Answered

@@ -1,0 +1,4 @@
+pub mod Received
+pub mod Filed
+pub mod Reading
+pub mod Laws
