@@ -1,38 +1,48 @@
 -- An input, from what was taken of it and what is left.
-use Rattle.std.proofs.Common.{◌≡◌, ℕ, ◌+◌, ◌%◌, ◌<◌, ◌≤◌, ◌++◌, List, [], ◌∷◌, length, map, Option, Some, None, refl, sym, ap, ◌∙◌, arith, inl, inr, length-append, append-nil}
+use Rattle.std.proofs.Common.{◌≡◌, ℕ, ◌+◌, ◌%◌, ◌<◌, ◌++◌, List, [], ◌∷◌, length, map, Option, Some, None, refl, sym, ap, subst, ◌∙◌, arith, length-append, append-nil}
 use Rattle.std.specs.Prelude.{unwrap_or}
 use Rattle.std.specs.Io.KnownBytes.{Consumes, IsAtEnd}
-use Rattle.std.proofs.lemmas.Bool.{cases_order}
+use Rattle.std.proofs.KnownBytes.{Consumes-trans}
 use Rattle.std.proofs.lemmas.List.{length-map}
 use Rattle.std.proofs.lemmas.List.Elements.{All-nil, All-cons}
 use Rattle.xs_io.specs.Bytes.{AreByteItems}
-use Rattle.xs_io.specs.Causes.{Rose}
-use Rattle.xs_cli.specs.Ends.{change_of, IsLeft, WasLeft, IsUsedUp}
-use Rattle.xs_cli.specs.Steps.{FailedWithin}
+use Rattle.xs_endings.specs.Ends.{change_of, IsLeft, IsUsedUp}
 
-no_bytes : AreByteItems []
+pub no_bytes : AreByteItems []
 no_bytes = All-nil (λ (item : ℕ). item < 256)
 
--- what was taken and what is left, where that is told; else what was taken
-abbrev pub joined : Option (List ℕ) → List ℕ → Option (List ℕ) → List ℕ
-joined None taken after = taken
-joined (Some bytes) taken after = taken ++ unwrap_or after []
+-- what is left behind what was taken, where that is told
+pub record HasRest (before after : Option (List ℕ)) (taken : List ℕ) : Type 0 where
+  pub rest : List ℕ
+  pub left : IsLeft before (taken ++ rest)
+  pub end : IsAtEnd after → rest ≡ []
 
-pub was_joined : (before after : Option (List ℕ)) (taken : List ℕ) → AreByteItems taken → Consumes before after taken → IsLeft before (joined before taken after)
-was_joined None after taken bytes consumed = bytes
-was_joined (Some bytes) None taken small consumed = absurd consumed
-was_joined (Some bytes) (Some rest) taken small consumed = consumed
+pub rest_of : (before after : Option (List ℕ)) (taken : List ℕ) → AreByteItems taken → Consumes before after taken → HasRest before after taken
+rest_of None after taken bytes consumed = record { rest = []; left = subst AreByteItems (sym (append-nil taken)) bytes; end = λ _. refl }
+rest_of (Some x) None taken bytes consumed = absurd consumed
+rest_of (Some x) (Some y) taken bytes consumed = record { rest = y; left = consumed; end = λ e. e }
+
+-- the same where a front of it was taken besides, of which it is not known that it is of bytes
+pub record HasFront (before after : Option (List ℕ)) (taken : List ℕ) (most : ℕ) : Type 0 where
+  pub front : List ℕ
+  pub rest : List ℕ
+  pub left : IsLeft before (taken ++ (front ++ rest))
+  pub consumed : Consumes before after (taken ++ front)
+  pub short : length front < most
+
+pub front_of : (before middle after : Option (List ℕ)) (taken front : List ℕ) (most : ℕ) → AreByteItems taken → Consumes before middle taken → Consumes middle after front → length front < most
+    → HasFront before after taken most
+front_of None middle after taken front most bytes first second short =
+    record { front = []; rest = []; left = subst AreByteItems (sym (append-nil taken)) bytes; consumed = tt; short = omega (arith, short) }
+front_of (Some x) None after taken front most bytes first second short = absurd first
+front_of (Some x) (Some y) None taken front most bytes first second short = absurd second
+front_of (Some x) (Some y) (Some z) taken front most bytes first second short =
+    record { front = front; rest = z; left = first ∙ ap (λ l. taken ++ l) second; consumed = Consumes-trans (Some x) (Some y) (Some z) taken front first second; short = short }
 
 -- some input was left
 pub was_some : (before : Option (List ℕ)) → IsLeft before (unwrap_or before [])
 was_some None = no_bytes
 was_some (Some bytes) = refl
-
--- all was taken
-pub was_whole : (before after : Option (List ℕ)) (taken : List ℕ) → AreByteItems taken → Consumes before after taken → IsAtEnd after → IsLeft before taken
-was_whole None after taken bytes consumed end = bytes
-was_whole (Some bytes) None taken small consumed end = absurd consumed
-was_whole (Some bytes) (Some rest) taken small consumed end = consumed ∙ ap (λ more. taken ++ more) end ∙ append-nil taken
 
 pub used_up : (before after : Option (List ℕ)) (faults faults' : ℕ) (taken : List ℕ) → Consumes before after taken → IsAtEnd after
     → IsUsedUp (change_of before after faults faults')
@@ -40,27 +50,11 @@ used_up None after faults faults' taken consumed end = tt
 used_up (Some bytes) None faults faults' taken consumed end = absurd consumed
 used_up (Some bytes) (Some rest) faults faults' taken consumed end = ap Some end
 
--- where other than `size` bytes came, the input has another length
-pub other_length : (size : ℕ) (before : Option (List ℕ)) (taken : List ℕ) (after : Option (List ℕ)) → ¬ (length taken ≡ size) → length taken ≤ size + 1
-    → (length taken < size + 1 → IsAtEnd after) → ¬ (length (joined before taken after) ≡ size)
-other_length size None taken after unlike most end same = unlike same
-other_length size (Some bytes) taken None unlike most end same = unlike (sym (ap length (append-nil taken)) ∙ same)
-other_length size (Some bytes) taken (Some rest) unlike most end same = elim (cases_order (length taken) (size + 1)) [
-  | inl more ↦ absurd (omega (arith, length-append taken rest))
-  | inr other ↦ elim other [
-    | inl less ↦ unlike (omega (arith, length-append taken rest, ap length (end less)))
-    | inr over ↦ absurd (omega arith)
-  ]
-]
-
--- the source failed after a front
-pub failed_within : (most : ℕ) (before after : Option (List ℕ)) (faults faults' : ℕ) (front : List ℕ) → Rose faults faults' → length front ≤ most → Consumes before after front
-    → (input : List ℕ) × WasLeft (change_of before after faults faults') input × FailedWithin most input (change_of before after faults faults')
-failed_within most None after faults faults' front rose within consumed =
-    ([], no_bytes, record { cause = rose; taken = []; front = ([], refl); within = omega arith; consumed = tt })
-failed_within most (Some bytes) None faults faults' front rose within consumed = absurd consumed
-failed_within most (Some bytes) (Some rest) faults faults' front rose within consumed =
-    (front ++ rest, consumed, record { cause = rose; taken = front; front = (rest, refl); within = within; consumed = consumed })
+-- all was taken
+pub was_whole : (before after : Option (List ℕ)) (taken : List ℕ) → AreByteItems taken → Consumes before after taken → IsAtEnd after → IsLeft before taken
+was_whole None after taken bytes consumed end = bytes
+was_whole (Some bytes) None taken small consumed end = absurd consumed
+was_whole (Some bytes) (Some rest) taken small consumed end = consumed ∙ ap (λ more. taken ++ more) end ∙ append-nil taken
 
 low_bytes : (items : List ℕ) → AreByteItems (map (λ (item : ℕ). item % 256) items)
 low_bytes [] = no_bytes

@@ -1,6 +1,9 @@
 mod Inputs
-mod Encodings
-mod Executed
+mod Turns
+mod Written
+mod Samples
+mod Exists
+mod Streams
+mod Done
+mod Good
 mod Runs
-mod Filled
-mod Decodings

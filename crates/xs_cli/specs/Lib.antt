@@ -1,6 +1,9 @@
-pub mod Decoding
+pub mod Encoded
+pub mod Decoded
+pub mod Places
 pub mod Answer
-pub mod Ends
-pub mod Program
+pub mod Good
 pub mod Run
 pub mod Steps
+pub mod Program
+pub mod Laws

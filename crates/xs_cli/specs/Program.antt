@@ -8,18 +8,13 @@ use Rattle.std.specs.declared.io.Error.{Error}
 use Rattle.std.specs.declared.io.ErrorKind.{ErrorKind}
 use Rattle.std.specs.declared.io.ErrorKind.TheVariants.{OutOfMemory}
 use Rattle.std.specs.declared.vec.IntoIter.{IntoIter}
-use Rattle.xs_cli.specs.Ends.{Change, Ends}
+use Rattle.xs_endings.specs.Ends.{Ends, IsUntouched}
 use Rattle.xs_cli.specs.Run.{IsRun}
 
 -- the status where no words came in: memory was wanting, or one is not UTF-8
 abbrev pub wordless_status : ErrorKind → ℕ
 wordless_status OutOfMemory = 9
 wordless_status kind = 1
-
--- nothing was taken from or given to it, and it did not fail
-pub record IsUntouched (end : Change) : Type 0 where
-  pub bytes : end.after ≡ end.before
-  pub faults : end.faults_after ≡ end.faults_before
 
 -- no words came in: nothing is read or written
 pub record IsWordless (kind : ErrorKind) (ends : Ends) (status : ℕ) : Type 0 where

@@ -1,84 +1,104 @@
--- What the steps of a run give, each with what is written or with why the run stops.
-use Rattle.std.specs.Prelude.{◌≡◌, ◌≢◌, ℕ, ◌+◌, ◌≤◌, ⊤, None, IsSome, OnOk, Result, Ok, Err, List, length}
-use Rattle.std.specs.Io.KnownBytes.{Consumes, Keeps}
-use Rattle.xs_lists.specs.Spelling.{BeginsWith}
-use Rattle.xs_params.specs.declared.settings.Settings.{Settings}
-use Rattle.xs_params.specs.Picture.{raw_size}
-use Rattle.xs_cli.specs.declared.stop.Stop.{Stop}
-use Rattle.xs_cli.specs.declared.stop.Stop.TheVariants as stop
+-- What the steps of a run owe beside its halt.
+use Rattle.std.specs.Prelude.{◌≡◌, ℕ, ◌-◌, ◌<◌, ◌≤◌, ◌⊎◌, ⊤, Option, None, Some, IsSome, Result, Ok, Err, List, [], ◌∷◌, length}
+use Rattle.std.specs.Io.KnownBytes.{Consumes, IsAtEnd, Keeps}
+use Rattle.xs_params.specs.Geometry.{slice_count}
+use Rattle.xs_faults.specs.declared.SliceFault.TheVariants as slice_fault
+use Rattle.xs_markers.specs.Reading.{header_at}
+use Rattle.xs_notes.specs.declared.note.Note.TheVariants as note
 use Rattle.xs_notes.specs.Lines.{NamesFault}
-use Rattle.xs_words.specs.declared.command.Command.{Command}
-use Rattle.xs_words.specs.declared.command.Command.TheVariants.{Encode, Decode}
+use Rattle.xs_endings.specs.declared.stop.Stop.{Stop}
+use Rattle.xs_endings.specs.declared.stop.Stop.TheVariants as stop
+use Rattle.xs_endings.specs.Ends.{Change, Ends, Got, HasFailed, IsLater, IsUsedUp, TookAtMost, WasLeft, ends_of, untouched}
+use Rattle.xs_endings.specs.Said.{note_status}
+use Rattle.xs_endings.specs.Steps.{IsHalt}
+use Rattle.xs_endings.specs.Turns.{Before, Ends as Ending, HasSaidAll, IsTaken, Turn, Writes}
+use Rattle.xs_words.specs.declared.command.Refusal.{Refusal}
 use Rattle.xs_words.specs.Refusal.{refusal_of}
-use Rattle.xs_words.specs.Command.{command_of, settings_of}
-use Rattle.xs_cli.specs.Answer.{IsOutcome, IsResult, stop_line, stop_status}
-use Rattle.xs_cli.specs.Decoding.{damage_note, input_limit}
-use Rattle.xs_cli.specs.Ends.{Change, HasFailed, Tells, TookAtMost, WasLeft, IsUsedUp}
+use Rattle.xs_words.specs.Command.{command_of}
+use Rattle.xs_words.specs.declared.command.Command.{Command}
+use Rattle.xs_cli.specs.Decoded.{IsDecodeTurn}
+use Rattle.xs_cli.specs.Answer.{IsAnswer, IsCommandAnswer, IsCommandStanding, IsStanding, most_wanted, refusal_note}
 
--- the input failed after a front of it, which has at most so many bytes
-pub record FailedWithin (most : ℕ) (input : List ℕ) (source : Change) : Type 0 where
-  pub cause : HasFailed source
-  pub taken : List ℕ
-  pub front : BeginsWith input taken
-  pub within : length taken ≤ most
-  pub consumed : Consumes source.before source.after taken
+-- a status of a command
+abbrev pub IsCommandStatus : ℕ → Type 0
+IsCommandStatus status = (3 ≤ status) × (status ≤ 6)
 
--- what reading the whole input, which is to have so many bytes, gives
-abbrev pub IsReading : ℕ → Change → Result (List ℕ) Stop → Type 0
-IsReading size source (Ok bytes) = (length bytes ≡ size) × WasLeft source bytes × IsUsedUp source
-IsReading size source (Err stop.InputForm) = (input : List ℕ) × WasLeft source input × (length input ≢ size)
-IsReading size source (Err stop.ReadFault) = (input : List ℕ) × WasLeft source input × FailedWithin size input source
-IsReading size source (Err stop.Memory) = ⊤
-IsReading size source (Err stop.InputLimit) = ⊥
-IsReading size source (Err (stop.InputCut place)) = ⊥
-IsReading size source (Err (stop.Damaged damage)) = ⊥
-IsReading size source (Err (stop.Words place)) = ⊥
-IsReading size source (Err (stop.Setting setting)) = ⊥
-IsReading size source (Err (stop.Budget budget)) = ⊥
+-- a note is one of a command, in which a fault is named
+abbrev pub IsOwnNote : Stop → Type 0
+IsOwnNote (stop.Told note) = IsCommandStatus (note_status note) × NamesFault note
+IsOwnNote why = ⊤
 
--- the result is as is wanted, but for want of memory
-abbrev pub IsUnlessMemory : (Result (List ℕ) Stop → Type 0) → Result (List ℕ) Stop → Type 0
-IsUnlessMemory Wanted (Err stop.Memory) = ⊤
-IsUnlessMemory Wanted result = Wanted result
+-- a command is done, or stops with a note of its own
+abbrev pub IsCommandStop : Result ℕ Stop → Type 0
+IsCommandStop (Ok status) = (status ≡ 0) ⊎ IsCommandStatus status
+IsCommandStop (Err why) = IsOwnNote why
 
--- the same, but for a failure of the source within so many bytes
-abbrev pub IsUnlessFailed : ℕ → (Result (List ℕ) Stop → Type 0) → List ℕ → Change → Result (List ℕ) Stop → Type 0
-IsUnlessFailed most Wanted input source (Err stop.ReadFault) = FailedWithin most input source
-IsUnlessFailed most Wanted input source result = IsUnlessMemory Wanted result
-
--- some words ask for these settings
-abbrev pub AreAsked : Settings → Type 0
-AreAsked s = (words : List (List ℕ)) × (s ≡ settings_of words)
-
--- how many bytes of its input a command takes; it looks whether there is one more
-abbrev pub most_wanted : Command → ℕ
-most_wanted (Encode s) = raw_size s.shape
-most_wanted Decode = input_limit
-
--- the input is read, and the command done
-pub record IsDone (command : Command) (source : Change) (result : Result (List ℕ) Stop) : Type 0 where
+-- what a command owes: status 0 leaves the source at its end
+pub record IsDone (command : Command) (ends : Ends) (result : Result ℕ Stop) : Type 0 where
   pub input : List ℕ
-  pub left : WasLeft source input
-  pub outcome : IsUnlessFailed (most_wanted command) (IsResult command input) input source result
-  pub taken : TookAtMost (most_wanted command + 1) source
-  pub whole : OnOk result (IsUsedUp source)
+  pub left : WasLeft ends.input input
+  pub halt : IsHalt (IsCommandAnswer command input) (IsCommandStanding command) input ends result
+  pub stop : IsCommandStop result
+  pub whole : result ≡ Ok 0 → IsUsedUp ends.input
+  pub most : TookAtMost (most_wanted command) ends.input
+  pub later : IsLater ends.notes
+
+-- a command that tells nothing itself owes the same, whatever the notes are
+abbrev pub IsDoneQuietly : Command → Change → Change → Result ℕ Stop → Type 0
+IsDoneQuietly command source output result = (held : Option (List ℕ)) (faults : ℕ) → IsDone command (ends_of source output (untouched held faults)) result
+
+-- Reading
+
+-- at most so many bytes were read, and fewer only at the end; or why not
+abbrev pub IsRead : ℕ → Change → Result (List ℕ) Stop → Type 0
+IsRead want source (Ok bytes) = Consumes source.before source.after bytes × (length bytes ≤ want) × (length bytes < want → IsAtEnd source.after)
+IsRead want source (Err stop.ReadFault) = HasFailed source × (front : List ℕ) × (length front < want) × Consumes source.before source.after front
+IsRead want source (Err stop.Memory) = (front : List ℕ) × (length front ≤ want) × Consumes source.before source.after front
+IsRead want source (Err stop.WriteFault) = ⊥
+IsRead want source (Err (stop.Told note)) = ⊥
+
+-- Decoding
+
+-- the codestream that stands next is written as its picture, and has so many bytes; or why the run stops there
+abbrev pub IsNext : Before → List ℕ → Change → Result ℕ Stop → Type 0
+IsNext before rest output (Ok size) = (piece : List ℕ) × IsDecodeTurn before rest (Writes size piece 0) × (size ≤ length rest) × Got output piece
+IsNext before rest output (Err why) = (turn : Turn) × IsDecodeTurn before rest turn × IsTaken output turn (Err why)
+
+-- why no codestream stands next is told; want of memory is free
+abbrev pub IsTold : Before → List ℕ → Stop → Type 0
+IsTold before rest (stop.Told note) = IsDecodeTurn before rest (Ending (note ∷ []))
+IsTold before rest stop.Memory = ⊤
+IsTold before rest stop.ReadFault = ⊥
+IsTold before rest stop.WriteFault = ⊥
+
+-- a bad end is told of the last slice of the header
+abbrev pub IsBadEnd : ℕ → List ℕ → Stop → Type 0
+IsBadEnd picture rest stop.Memory = ⊤
+IsBadEnd picture rest why = why ≡ stop.Told (note.DamagedSlice picture (slice_count (header_at rest) - 1) slice_fault.End)
+
+-- codestreams that are whole in memory are decoded, whatever source and notes are
+abbrev pub AreDecoded : List ℕ → Change → Result ℕ Stop → Type 0
+AreDecoded bytes output result =
+    (command : Command) (source : Change) (held : Option (List ℕ)) (faults : ℕ)
+    → IsHalt (HasSaidAll IsDecodeTurn bytes) (IsCommandStanding command) bytes (ends_of source output (untouched held faults)) result
+
+-- Running
+
+-- words that are refused stop the run at once
+abbrev pub IsOwnStop : Option Refusal → Result ℕ Stop → Type 0
+IsOwnStop None result = IsCommandStop result
+IsOwnStop (Some why) result = result ≡ Err (stop.Told (refusal_note why))
 
 -- the words are read and executed
-pub record IsExecuted (words : List (List ℕ)) (source : Change) (result : Result (List ℕ) Stop) : Type 0 where
+pub record IsExecuted (words : List (List ℕ)) (ends : Ends) (result : Result ℕ Stop) : Type 0 where
   pub input : List ℕ
-  pub left : WasLeft source input
-  pub outcome : IsUnlessFailed (most_wanted (command_of words)) (IsOutcome words input) input source result
-  pub command : result ≡ Err stop.ReadFault → refusal_of words ≡ None
-  pub taken : TookAtMost (most_wanted (command_of words) + 1) source
-  pub whole : OnOk result (IsUsedUp source)
-  pub kept : IsSome (refusal_of words) → Keeps source.before source.after
+  pub left : WasLeft ends.input input
+  pub halt : IsHalt (IsAnswer words input) (IsStanding words) input ends result
+  pub stop : IsOwnStop (refusal_of words) result
+  pub whole : result ≡ Ok 0 → IsUsedUp ends.input
+  pub most : TookAtMost (most_wanted (command_of words)) ends.input
+  pub kept : IsSome (refusal_of words) → Keeps ends.input.before ends.input.after
+  pub later : IsLater ends.notes
 
--- a fault inside why it stops is named
-abbrev pub NamesStop : Stop → Type 0
-NamesStop (stop.Damaged damage) = NamesFault (damage_note damage)
-NamesStop why = ⊤
-
--- why it stops is told: where memory was wanting nothing is, and else its note
-abbrev pub IsTold : Change → Stop → ℕ → Type 0
-IsTold notes stop.Memory status = Keeps notes.before notes.after × (status ≡ 9)
-IsTold notes why status = Tells notes (stop_line why) (stop_status why) status
+abbrev pub IsExecutedQuietly : List (List ℕ) → Change → Change → Result ℕ Stop → Type 0
+IsExecutedQuietly words source output result = (held : Option (List ℕ)) (faults : ℕ) → IsExecuted words (ends_of source output (untouched held faults)) result

@@ -1,10 +1,9 @@
 // The program: the words that it is started with, and its streams.
 ghost use Rattle.std.specs.Prelude.{◌≡◌, IfOk, drop};
 ghost use Rattle.std.specs.Vec.Iter.{into_iter_items};
-ghost use Rattle.xs_cli.specs.Ends.{change_of, ends_of};
+ghost use Rattle.xs_endings.specs.Ends.{change_of, ends_of};
 ghost use Rattle.xs_cli.specs.Program.{IsProgram, wordless_status};
 
-use crate::stop::{BAD_WORDS, NO_MEMORY};
 use crate::top::run;
 use std::alloc::Global;
 use std::env::Args;
@@ -12,6 +11,11 @@ use std::io;
 use std::io::ErrorKind;
 use std::thread::Threads;
 use xs_io::{Memory, OpenGate, Sink, Source};
+
+/// A word is not UTF-8.
+const BAD_WORDS: u8 = 1;
+
+const NO_MEMORY: u8 = 9;
 
 /// Runs the command of the arguments, of which the first is the program's name, and answers the status to end with: that
 /// of `run`, 1 where an argument is not UTF-8, of which there is no note, and 9 where memory is wanting for the arguments.

@@ -1,13 +1,14 @@
 // Bytes that are spelled in a text.
 //
 // Between blanks: `128*0` is so many bytes of this value; `xff11` are bytes in hexadecimal; `4:A:B:C` are so many precincts of
-// the black picture, with the bytes A as their header and that of their packet, B behind the counts and C behind the data; a
-// word is what `named` says. `13=1` sets the byte at a place, and `<20` keeps the bytes before a place.
+// the plain picture, with the bytes A as their header and that of their packet, B behind the counts and C behind the data; a
+// word is what `push_named` says. `13=1` sets the byte at a place, `6+abcd` puts bytes in before it, `<20` keeps the bytes before
+// a place, and `^3` makes what stands before stand three times.
 use std::alloc::Global;
 use xs_io::{Memory, Octets};
 
-// The header and the slice header of a black picture of 32 by 4 samples; the header of a precinct with that of its packet, the
-// counts and the data.
+// The header and the slice header of a black picture of 32 by 4 samples, whose length is that of the plain one; the header of a
+// precinct of the plain one, where no mode is set, with that of its packet, the counts and the data.
 const HEADER: &str =
     "ff10 ff500002 ff12001a 000000e8 00000000 00200004 00000004 01040814 84001000 ff1300040811 \
     ff14000600000001 ff2000040000";
@@ -18,27 +19,35 @@ const COUNTS: &str = "fff7ffbffdffe0";
 
 const DATA: &str = "ff00000000000ff00000000000 ff00000000000ff00000000000";
 
-// The same of 33 columns and two precincts a slice, without its length: five groups and four, of which the fifth has three
-// places past the width.
+// The precincts of the black picture, but for the data; and one with raw counts.
+const BLACK_FIRST: &str = "0000270000 20 001a003800 80 fff7ffbffdffe0";
+
+const BLACK_NEXT: &str = "0000200000 e0 001a000000 c0";
+
+const RAW_HEAD: &str = "0000230000 00 801a002000 cccc0000";
+
+// The same of 33 columns and two precincts a slice: five groups and four, of which the fifth has three places past the width.
 const WIDE_HEADER: &str =
-    "ff10 ff500002 ff12001a 00000000 00000000 00210004 00000002 01040814 84001000 ff1300040811 \
+    "ff10 ff500002 ff12001a 00000104 00000000 00210004 00000002 01040814 84001000 ff1300040811 \
     ff14000600000001";
 
-const WIDE_PRECINCT: &str =
-    "00002f0000 00 0021004800 fff7ffbffdffefff00 ff00000000000ff00000000000 \
-    ff00000000000ff00000000000 88000000000000";
+const WIDE_FIRST: &str = "0000300000 20 0021004800 80 fff7ffbffdffefff00";
+
+const WIDE_NEXT: &str = "0000270000 e0 0021000000 c0";
+
+const WIDE_DATA: &str = "ff00000000000ff00000000000 ff00000000000ff00000000000 88000000000000";
 
 // A grey picture of 32 by 17 samples at two levels across and two down: its header; the header of a precinct of ten packets
-// and that of the last precinct, of three; a packet, whose two or four counts are 0.
+// and that of the last precinct, of three; a packet, whose flags are set.
 const DEEP_HEADER: &str =
-    "ff10 ff500002 ff12001a 0000016d 00000000 00200011 00000004 01040814 84002200 ff1300040811 \
+    "ff10 ff500002 ff12001a 0000016d 00000000 00200011 00000004 01040814 84002210 ff1300040811 \
     ff14001002000101010201030004000500 06";
 
-const DEEP_PRECINCT: &str = "00003c00000000";
+const DEEP_PRECINCT: &str = "00003c0000aaa8";
 
-const DEEP_LAST: &str = "00001200000000";
+const DEEP_LAST: &str = "0000120000a080";
 
-const DEEP_PACKET: &str = "000000080000";
+const DEEP_PACKET: &str = "000000000080";
 
 /// The number that a text spells, and 0 where it spells none.
 pub fn number(text: &str) -> usize {
@@ -91,12 +100,18 @@ fn push_hex_times(bytes: &mut Vec<u8>, count: usize, text: &str) -> Result<(), M
     Ok(())
 }
 
+fn push_slice(bytes: &mut Vec<u8>, head: &str, first: &str, next: &str) -> Result<(), Memory> {
+    push_hex(bytes, head)?;
+    push_hex(bytes, first)?;
+    push_hex(bytes, WIDE_DATA)?;
+    push_hex(bytes, next)?;
+    push_hex(bytes, WIDE_DATA)
+}
+
 fn push_wide(bytes: &mut Vec<u8>) -> Result<(), Memory> {
     push_hex(bytes, WIDE_HEADER)?;
-    push_hex(bytes, "ff2000040000")?;
-    push_hex_times(bytes, 2, WIDE_PRECINCT)?;
-    push_hex(bytes, "ff2000040001")?;
-    push_hex_times(bytes, 2, WIDE_PRECINCT)?;
+    push_slice(bytes, "ff2000040000", WIDE_FIRST, WIDE_NEXT)?;
+    push_slice(bytes, "ff2000040001", WIDE_FIRST, WIDE_NEXT)?;
     push_hex(bytes, "ff11")
 }
 
@@ -113,20 +128,51 @@ fn push_deep(bytes: &mut Vec<u8>) -> Result<(), Memory> {
     push_hex(bytes, "ff11")
 }
 
-// What a word names: the header of the black picture, or the codestream of the black one, the wide one or the deep one.
+// The black picture, whose length is stated in byte 13 of the header.
+fn push_black(bytes: &mut Vec<u8>) -> Result<(), Memory> {
+    let start = bytes.len();
+    push_hex(bytes, HEADER)?;
+    set(bytes, start.saturating_add(13), 215);
+    push_hex(bytes, BLACK_FIRST)?;
+    push_hex(bytes, DATA)?;
+    for _ in 0..3 {
+        push_hex(bytes, BLACK_NEXT)?;
+        push_hex(bytes, DATA)?;
+    }
+    push_hex(bytes, "ff11")
+}
+
+// The same with raw counts.
+fn push_raw(bytes: &mut Vec<u8>) -> Result<(), Memory> {
+    let start = bytes.len();
+    push_hex(bytes, HEADER)?;
+    set(bytes, start.saturating_add(13), 220);
+    for _ in 0..4 {
+        push_hex(bytes, RAW_HEAD)?;
+        push_hex(bytes, DATA)?;
+    }
+    push_hex(bytes, "ff11")
+}
+
+fn push_numbers(bytes: &mut Vec<u8>, numbers: &[u8]) -> Result<(), Memory> {
+    bytes.extend_from_slice(numbers).map_err(|_| Memory)
+}
+
+// What a word names: the header of the plain picture; the codestream of the black picture, of the plain one, of the same with
+// raw counts, of the wide one or the deep one.
 fn push_named(bytes: &mut Vec<u8>, word: &str) -> Result<(), Memory> {
-    if word == "header" {
-        push_hex(bytes, HEADER)
-    } else if word == "black" {
-        push_hex(bytes, HEADER)?;
-        push_precincts(bytes, 4, "::")?;
-        push_hex(bytes, "ff11")
-    } else if word == "wide" {
-        push_wide(bytes)
-    } else if word == "deep" {
-        push_deep(bytes)
-    } else {
-        Ok(())
+    match word {
+        "header" => push_hex(bytes, HEADER),
+        "black" => push_black(bytes),
+        "plain" => {
+            push_hex(bytes, HEADER)?;
+            push_precincts(bytes, 4, "::")?;
+            push_hex(bytes, "ff11")
+        }
+        "raw" => push_raw(bytes),
+        "wide" => push_wide(bytes),
+        "deep" => push_deep(bytes),
+        _ => Ok(()),
     }
 }
 
@@ -136,7 +182,29 @@ fn set(bytes: &mut Vec<u8>, place: usize, value: u8) {
     }
 }
 
-fn push_part(bytes: &mut Vec<u8>, part: &str) -> Result<(), Memory> {
+// Puts bytes in before a place.
+fn insert(alloc: Global, bytes: &mut Vec<u8>, place: usize, digits: &str) -> Result<(), Memory> {
+    let mut rest = Vec::new(alloc);
+    for at in place..bytes.len() {
+        rest.push(bytes[at]).map_err(|_| Memory)?;
+    }
+    bytes.truncate(place);
+    push_hex(bytes, digits)?;
+    push_numbers(bytes, rest.as_slice())
+}
+
+// Makes the bytes stand so often.
+fn repeat(alloc: Global, bytes: &mut Vec<u8>, times: usize) -> Result<(), Memory> {
+    let mut once = Vec::new(alloc);
+    push_numbers(&mut once, bytes.as_slice())?;
+    for _ in 1..times {
+        push_numbers(bytes, once.as_slice())?;
+    }
+    Ok(())
+}
+
+// Puts the bytes of a part behind the others, or changes those, where it names a place.
+fn push_part(alloc: Global, bytes: &mut Vec<u8>, part: &str) -> Result<(), Memory> {
     if let Some(digits) = part.strip_prefix('x') {
         return push_hex(bytes, digits);
     }
@@ -144,9 +212,15 @@ fn push_part(bytes: &mut Vec<u8>, part: &str) -> Result<(), Memory> {
         bytes.truncate(number(place));
         return Ok(());
     }
+    if let Some(times) = part.strip_prefix('^') {
+        return repeat(alloc, bytes, number(times));
+    }
     if let Some((count, value)) = part.split_once('*') {
         let size = bytes.len().saturating_add(number(count));
         return bytes.resize(size, byte(value)).map_err(|_| Memory);
+    }
+    if let Some((place, digits)) = part.split_once('+') {
+        return insert(alloc, bytes, number(place), digits);
     }
     if let Some((place, value)) = part.split_once('=') {
         set(bytes, number(place), byte(value));
@@ -162,7 +236,7 @@ fn push_part(bytes: &mut Vec<u8>, part: &str) -> Result<(), Memory> {
 pub fn bytes_of(alloc: Global, text: &str) -> Result<Octets, Memory> {
     let mut bytes = Vec::new(alloc);
     for part in text.split(' ') {
-        push_part(&mut bytes, part)?;
+        push_part(alloc, &mut bytes, part)?;
     }
     Ok(Octets::from(bytes))
 }

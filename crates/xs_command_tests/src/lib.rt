@@ -13,3 +13,5 @@ mod ends;
 mod pictures;
 #[cfg(test)]
 mod rows;
+#[cfg(test)]
+mod words;

@@ -1,4 +1,4 @@
-// Rows of a table of runs: words, input, status, output and note, with bars between them.
+// Rows of a table of runs: words, input, status, output and notes, with bars between them, and between two notes `;`.
 //
 // Input and output are bytes as `bytes_of` reads them. Behind the input stand, each after a `@`, the call that fails of the
 // input, of the output and of the notes, where one does. An output `#N` is any of so many bytes.
@@ -100,12 +100,31 @@ fn is_written(alloc: Global, held: &[u8], text: &str) -> Result<bool, Memory> {
     }
 }
 
-// Whether this is the line that was said, or nothing was where the line is empty.
-fn is_said(held: &[u8], line: &str) -> bool {
-    match held.split_last() {
-        Some((last, text)) => *last == b'\n' && text == line.as_bytes(),
-        None => line.is_empty(),
+// Whether these are the lines that were said.
+fn is_said(alloc: Global, held: &[u8], lines: &str) -> Result<bool, Memory> {
+    let mut said = Octets::new(alloc);
+    for line in lines.split(';') {
+        if !line.trim().is_empty() {
+            said.extend(line.trim().as_bytes())?;
+            said.push(b'\n')?;
+        }
     }
+    Ok(said.as_slice() == held)
+}
+
+/// Whether a run left what the parts of a row say: status, output and notes.
+pub fn has_left(
+    alloc: Global,
+    left: &Outcome,
+    status: &str,
+    output: &str,
+    notes: &str,
+) -> Result<bool, Memory> {
+    Ok(
+        usize::from(left.status) == number(status)
+            && is_written(alloc, left.output.held(), output)?
+            && is_said(alloc, left.notes.held(), notes)?,
+    )
 }
 
 fn runs_as<T: Threads + Sync>(
@@ -118,11 +137,10 @@ fn runs_as<T: Threads + Sync>(
     let words = format!(in alloc; "{first} {}", parts.next().unwrap_or("")).map_err(|_| Memory)?;
     let (input, failing) = given_of(alloc, parts.next().unwrap_or(""))?;
     let left = run_on(threads, alloc, words.as_str(), input, failing)?;
-    Ok(
-        usize::from(left.status) == number(parts.next().unwrap_or(""))
-            && is_written(alloc, left.output.held(), parts.next().unwrap_or(""))?
-            && is_said(left.notes.held(), parts.next().unwrap_or("").trim()),
-    )
+    let status = parts.next().unwrap_or("");
+    let output = parts.next().unwrap_or("");
+    let notes = parts.next().unwrap_or("");
+    has_left(alloc, &left, status, output, notes)
 }
 
 /// Whether a run of these words, and further words in the row, goes as the row says.

@@ -1,0 +1,245 @@
+-- What a command leaves, as a run sees it.
+use Rattle.std.proofs.Common.{◌≡◌, ℕ, ◌+◌, ◌<◌, ◌≤◌, ◌++◌, List, [], ◌∷◌, length, Option, Some, None, Result, Ok, Err, refl, sym, subst, arith, inl, inr, ◌⊎◌}
+use Rattle.std.specs.Prelude.{Bool, true, false, nat_lt, unwrap_or, MatchBool, IsSome}
+use Rattle.std.specs.Io.KnownBytes.{Consumes, IsAtEnd}
+use Rattle.std.proofs.KnownBytes.{Appends-nil, Consumes-nil, Keeps-refl}
+use Rattle.std.proofs.lemmas.Bool.{cases_lt}
+use Rattle.std.proofs.lemmas.Bool.Decides.{nat_tests}
+use Rattle.std.proofs.lemmas.List.Elements.{All-cons, recursion_from_All, All-from_recursion}
+use Rattle.xs_io.specs.Bytes.{AreByteItems}
+use Rattle.xs_io.specs.Causes.{Rose}
+use Rattle.xs_lists.specs.Packing.{AreBytes}
+use Rattle.xs_capture.specs.Pictures.{most_pictures}
+use Rattle.xs_notes.specs.declared.note.Note.TheVariants as note
+use Rattle.xs_endings.specs.declared.stop.Stop.{Stop}
+use Rattle.xs_endings.specs.declared.stop.Stop.TheVariants as stop
+use Rattle.xs_endings.specs.Ends.{Change, Ends, change_of, ends_of, untouched}
+use Rattle.xs_endings.specs.Endings.{HasFronts}
+use Rattle.xs_endings.specs.Said.{Said, refused}
+use Rattle.xs_endings.specs.Steps.{IsHalt}
+use Rattle.xs_endings.specs.Turns.{HasSaidAll, nothing}
+use Rattle.xs_endings.proofs.Changes.{front_of_none}
+use Rattle.xs_endings.proofs.Pictures.{rest_from}
+use Rattle.xs_endings.proofs.Turns.{said_on}
+use Rattle.xs_words.specs.declared.command.Form.{Form}
+use Rattle.xs_words.specs.declared.command.Form.TheVariants.{Rtp, Xs}
+use Rattle.xs_words.specs.declared.command.Refusal.{Refusal}
+use Rattle.xs_words.specs.declared.command.Command.{Command}
+use Rattle.xs_words.specs.declared.command.Command.TheVariants.{Encode, Decode}
+use Rattle.xs_words.specs.Refusal.{refusal_of}
+use Rattle.xs_words.specs.Command.{command_of}
+use Rattle.xs_cli.specs.Answer.{IsAnswer, IsAnswerUnless, IsCommandAnswer, IsCommandStanding, IsStanding, refusal_note}
+use Rattle.xs_cli.specs.Decoded.{IsDecodeTurn, IsDecoded, IsFormAnswer, input_limit}
+use Rattle.xs_cli.specs.Steps.{AreDecoded, IsCommandStop, IsDone, IsExecuted, IsOwnStop}
+use Rattle.xs_cli.proofs.Inputs.{front_of, no_bytes, over, used_up, was_some, was_whole}
+use Rattle.xs_cli.specs.Encoded.{IsEncodeTurn, encode_turn}
+use Rattle.xs_cli.specs.Laws.{AnswersExist}
+use Rattle.xs_cli.proofs.Turns.{encode_goes}
+use Rattle.xs_cli.proofs.Streams.{decode_goes}
+
+-- The same halt by other words for its answers
+
+module _ (Answer Other : Said → Type 0) (Stands Others : List ℕ → List ℕ → Type 0) (input : List ℕ) (ends : Ends)
+    (answers : (said : Said) → Answer said → Other said) (standing : (taken out : List ℕ) → Stands taken out → Others taken out) where
+  fronts_as : HasFronts Answer input ends → HasFronts Other input ends
+  fronts_as fronts = record { said = fronts.said; answer = λ are. answers fronts.said (fronts.answer are); output = fronts.output; notes = fronts.notes }
+
+  pub halt_as : (result : Result ℕ Stop) → IsHalt Answer Stands input ends result → IsHalt Other Others input ends result
+  halt_as (Ok status) all = record { said = all.said; answer = answers all.said all.answer; answered = all.answered; output = all.output; notes = all.notes }
+  halt_as (Err (stop.Told why)) left = record { said = left.said; answer = answers left.said left.answer; note = left.note; output = left.output; notes = left.notes }
+  halt_as (Err stop.ReadFault) fault = record {
+    failed = record {
+      cause = fault.failed.cause;
+      taken = fault.failed.taken;
+      front = fault.failed.front;
+      consumed = fault.failed.consumed;
+      out = fault.failed.out;
+      stands = standing fault.failed.taken fault.failed.out fault.failed.stands;
+      output = fault.failed.output;
+    };
+    notes = fault.notes;
+  }
+  halt_as (Err stop.WriteFault) cut = (cut.0, fronts_as cut.1)
+  halt_as (Err stop.Memory) fronts = fronts_as fronts
+
+-- Decoding
+
+within_limit : (form : Form) (input : List ℕ) (said : Said) → length input ≤ input_limit → IsFormAnswer form input said → IsDecoded form input said
+within_limit form input said within answer =
+    let test : nat_lt input_limit (length input) ≡ false = grind (arith, nat_tests) in
+    subst (λ (b : Bool). MatchBool b (said ≡ refused (note.InputLimit input_limit)) (IsFormAnswer form input said)) (sym test) answer
+
+past_limit : (form : Form) (input : List ℕ) → input_limit < length input → IsDecoded form input (refused (note.InputLimit input_limit))
+past_limit form input past =
+    let test : nat_lt input_limit (length input) ≡ true = grind (arith, nat_tests) in
+    subst (λ (b : Bool). MatchBool b (refused (note.InputLimit input_limit) ≡ refused (note.InputLimit input_limit)) (IsFormAnswer form input (refused (note.InputLimit input_limit)))) (sym test) refl
+
+form_answer : (form : Form) (input : List ℕ) (said : Said) → HasSaidAll IsDecodeTurn input said → IsFormAnswer form input said
+form_answer Xs input said all = all
+form_answer Rtp input said all = tt
+
+as_bytes : (input : List ℕ) → AreByteItems input → AreBytes input
+as_bytes input are = recursion_from_All (λ (item : ℕ). item < 256) input are
+
+all_said : (input : List ℕ) → AreBytes input → (said : Said) × HasSaidAll IsDecodeTurn input said
+all_said input are =
+    let turn = decode_goes.there nothing input are in
+    let enough : most_pictures ≤ nothing.pictures + most_pictures = omega arith in
+    let rest = rest_from IsDecodeTurn AreBytes most_pictures decode_goes most_pictures nothing input are enough turn.0 turn.1 in
+    (_, said_on IsDecodeTurn nothing rest.end input input rest.last [] rest.more rest.notes (refl, refl) rest.written rest.ended)
+
+-- each input of bytes has an answer
+pub decode_answer : (form : Form) (input : List ℕ) → AreByteItems input → (said : Said) × IsDecoded form input said
+decode_answer form input are = elim (cases_lt input_limit (length input)) [
+  | inl past ↦ (refused (note.InputLimit input_limit), past_limit form input past)
+  | inr within ↦ let all = all_said input (as_bytes input are) in (all.0, within_limit form input all.0 within (form_answer form input all.0 all.1))
+]
+
+decided_bytes : (input : List ℕ) → AreByteItems input ⊎ ¬ AreByteItems input
+decided_bytes input = go input
+  where
+    go : (l : List ℕ) → AreByteItems l ⊎ ¬ AreByteItems l
+    go [] = inl no_bytes
+    go (x ∷ l) = elim (cases_lt x 256) [
+      | inl small ↦ elim (go l) [
+        | inl others ↦ inl (All-cons (λ (item : ℕ). item < 256) x l small others)
+        | inr not ↦ inr (λ all. not (All-from_recursion (λ (item : ℕ). item < 256) l (recursion_from_All (λ (item : ℕ). item < 256) (x ∷ l) all).1))
+      ]
+      | inr large ↦ inr (λ all. let first = (recursion_from_All (λ (item : ℕ). item < 256) (x ∷ l) all).0 in absurd (omega (arith, first, large)))
+    ]
+
+-- nothing was said, but something may be
+pub nothing_said : (Answer : Said → Type 0) (input : List ℕ) → (AreByteItems input → (said : Said) × Answer said) → (source : Change) (p : Option (List ℕ)) (u : ℕ) (held : Option (List ℕ)) (faults : ℕ)
+    → HasFronts Answer input (ends_of source (untouched p u) (untouched held faults))
+nothing_said Answer input answer source p u held faults = elim (decided_bytes input) [
+  | inl are ↦ let found = answer are in
+      record { said = found.0; answer = λ _. found.1; output = front_of_none p u u found.0.out; notes = front_of_none held faults faults _ }
+  | inr not ↦ record { said = record { out = []; notes = [] }; answer = λ are. absurd (not are); output = front_of_none p u u []; notes = front_of_none held faults faults [] }
+]
+
+module _ (form : Form) (workers feeders : ℕ) (a c p : Option (List ℕ)) (f h u : ℕ) (held : Option (List ℕ)) (faults : ℕ) where
+  -- the whole input was read
+  pub read_whole : (bytes : List ℕ) (r : Option (List ℕ)) (w : ℕ) (result : Result ℕ Stop) → length bytes ≤ input_limit → AreByteItems bytes → Consumes a c bytes → IsAtEnd c → IsCommandStop result
+      → AreDecoded bytes (change_of p r u w) result → IsDone (Decode form workers feeders) (ends_of (change_of a c f h) (change_of p r u w) (untouched held faults)) result
+  read_whole bytes r w result within are consumed end stops decoded = record {
+    input = bytes;
+    left = was_whole a c bytes are consumed end;
+    halt = halt_as (HasSaidAll IsDecodeTurn bytes) (IsDecoded form bytes) (IsCommandStanding (Decode form workers feeders)) (IsCommandStanding (Decode form workers feeders)) bytes (ends_of (change_of a c f h) (change_of p r u w) (untouched held faults))
+        (λ said all. within_limit form bytes said within (form_answer form bytes said all)) (λ taken out stands. stands) result (decoded (Decode form workers feeders) (change_of a c f h) held faults);
+    stop = stops;
+    whole = λ _. used_up a c f h bytes consumed end;
+    most = (bytes, omega (arith, within), consumed);
+    later = omega arith;
+  }
+
+  pub over_limit : (front : List ℕ) → length front ≡ input_limit + 1 → Consumes a c front
+      → IsDone (Decode form workers feeders) (ends_of (change_of a c f h) (untouched p u) (untouched held faults)) (Err (stop.Told (note.InputLimit input_limit)))
+  over_limit front size consumed =
+      let found = over input_limit a c front size consumed in
+      record {
+        input = found.0;
+        left = found.1;
+        halt = record {
+          said = refused (note.InputLimit input_limit);
+          answer = past_limit form found.0 found.2;
+          note = refl;
+          output = Appends-nil p;
+          notes = Keeps-refl held;
+        };
+        stop = ((omega arith, omega arith), tt);
+        whole = λ e. absurd (cc);
+        most = (front, omega (arith, size), consumed);
+        later = omega arith;
+      }
+
+  pub input_failed : (front : List ℕ) → length front ≤ input_limit → Consumes a c front → Rose f h
+      → IsDone (Decode form workers feeders) (ends_of (change_of a c f h) (untouched p u) (untouched held faults)) (Err stop.ReadFault)
+  input_failed front short consumed rose =
+      let found = front_of a a c [] front (input_limit + 1) no_bytes (Consumes-nil a) consumed (omega (arith, short)) in
+      record {
+        input = found.front ++ found.rest;
+        left = found.left;
+        halt = record {
+          failed = record {
+            cause = rose;
+            taken = found.front;
+            front = (found.rest, refl);
+            consumed = found.consumed;
+            out = [];
+            stands = record { most = omega (arith, found.short); stands = refl };
+            output = Appends-nil p;
+          };
+          notes = Keeps-refl held;
+        };
+        stop = tt;
+        whole = λ e. absurd (cc);
+        most = (front, omega (arith, short), consumed);
+        later = omega arith;
+      }
+
+  pub no_room : (front : List ℕ) → length front ≤ input_limit → Consumes a c front
+      → IsDone (Decode form workers feeders) (ends_of (change_of a c f h) (untouched p u) (untouched held faults)) (Err stop.Memory)
+  no_room front short consumed = record {
+    input = unwrap_or a [];
+    left = was_some a;
+    halt = nothing_said (IsDecoded form (unwrap_or a [])) (unwrap_or a []) (decode_answer form (unwrap_or a [])) (change_of a c f h) p u held faults;
+    stop = tt;
+    whole = λ e. absurd (cc);
+    most = (front, omega (arith, short), consumed);
+    later = omega arith;
+  }
+
+-- Running
+
+none_some : IsSome {T = Refusal} None → ⊥
+none_some some = absurd (cc)
+
+pub executed : (words : List (List ℕ)) (command : Command) (ends : Ends) (result : Result ℕ Stop) → refusal_of words ≡ None → command ≡ command_of words → IsDone command ends result → IsExecuted words ends result
+executed words command ends result e same other =
+    let done = subst (λ (c : Command). IsDone c ends result) same other in
+    record {
+      input = done.input;
+      left = done.left;
+      halt = halt_as (IsCommandAnswer (command_of words) done.input) (IsAnswer words done.input) (IsCommandStanding (command_of words)) (IsStanding words) done.input ends
+          (λ said answer. subst (λ (o : Option Refusal). IsAnswerUnless o (command_of words) done.input said) (sym e) answer)
+          (λ taken out stands. record { command = e; standing = stands }) result done.halt;
+      stop = subst (λ (o : Option Refusal). IsOwnStop o result) (sym e) done.stop;
+      whole = done.whole;
+      most = done.most;
+      kept = λ some. absurd (none_some (subst (λ (o : Option Refusal). IsSome o) e some));
+      later = done.later;
+    }
+
+pub refused_words : (words : List (List ℕ)) (why : Refusal) (a p : Option (List ℕ)) (f u : ℕ) (held : Option (List ℕ)) (faults : ℕ) → refusal_of words ≡ Some why
+    → IsExecuted words (ends_of (untouched a f) (untouched p u) (untouched held faults)) (Err (stop.Told (refusal_note why)))
+refused_words words why a p f u held faults e = record {
+  input = unwrap_or a [];
+  left = was_some a;
+  halt = record {
+    said = refused (refusal_note why);
+    answer = subst (λ (o : Option Refusal). IsAnswerUnless o (command_of words) (unwrap_or a []) (refused (refusal_note why))) (sym e) refl;
+    note = refl;
+    output = Appends-nil p;
+    notes = Keeps-refl held;
+  };
+  stop = subst (λ (o : Option Refusal). IsOwnStop o (Err (stop.Told (refusal_note why)))) (sym e) refl;
+  whole = λ x. absurd (cc);
+  most = ([], omega arith, Consumes-nil a);
+  kept = λ _. Keeps-refl a;
+  later = omega arith;
+}
+
+-- each input of bytes has an answer
+command_answer : (command : Command) (input : List ℕ) → AreByteItems input → (said : Said) × IsCommandAnswer command input said
+command_answer (Decode form workers feeders) input are = decode_answer form input are
+command_answer (Encode settings form) input are =
+    let enough : most_pictures ≤ nothing.pictures + most_pictures = omega arith in
+    let rest = rest_from (IsEncodeTurn settings form) (λ _. Unit {0}) most_pictures (encode_goes settings form) most_pictures nothing input tt enough (encode_turn settings form nothing input) refl in
+    (_, said_on (IsEncodeTurn settings form) nothing rest.end input input rest.last [] rest.more rest.notes (refl, refl) rest.written rest.ended)
+
+pub has_answer : AnswersExist
+has_answer words input are = go (refusal_of words)
+  where
+    go : (o : Option Refusal) → (said : Said) × IsAnswerUnless o (command_of words) input said
+    go None = command_answer (command_of words) input are
+    go (Some why) = (refused (refusal_note why), refl)

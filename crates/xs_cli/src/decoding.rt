@@ -1,0 +1,172 @@
+// Codestreams become raw pictures, one after the other: 'Command words'.
+ghost use Rattle.std.specs.Prelude.{◌≡◌, ◌≢◌, ◌+◌, ◌-◌, ◌<◌, ◌≤◌, ◌^◌, ℕ, None, Some, IfErr, length, []};
+ghost use Rattle.xs_capture.specs.Pictures.{most_pictures};
+ghost use Rattle.xs_endings.specs.Ends.{IsLater, change_of};
+ghost use Rattle.xs_endings.specs.Steps.{IsGiven};
+ghost use Rattle.xs_params.specs.Picture.{raw_bytes};
+ghost use Rattle.xs_markers.specs.Reading.{head_fault};
+ghost use Rattle.xs_picture.specs.Faults.{stream_fault};
+ghost use Rattle.xs_params.specs.Accepted.{IsAccepted};
+ghost use Rattle.xs_params.specs.Geometry.{slice_count};
+ghost use Rattle.xs_words.specs.declared.command.Command.TheVariants as Commands;
+ghost use Rattle.xs_words.specs.declared.command.Form.TheVariants.{Xs};
+ghost use Rattle.xs_cli.specs.Decoded.{input_limit};
+ghost use Rattle.xs_cli.specs.Steps.{AreDecoded, IsBadEnd, IsCommandStop, IsDoneQuietly, IsNext, IsOwnNote, IsTold};
+
+use crate::input::{DONE, MOST_PICTURES};
+use std::alloc::Global;
+use xs_endings::{Stop, give};
+use xs_faults::{HeadFault, SliceFault, StreamFault};
+use xs_geometry::Geometry;
+use xs_io::{Sink, Source, TakeFault, take_all};
+use xs_markers::{Header, read_header};
+use xs_notes::Note;
+use xs_params::Planes;
+use xs_picture::decode_picture;
+use xs_samples::write_picture;
+use xs_words::Form;
+
+/// The most bytes that an input of decoding may have.
+const INPUT_LIMIT: u64 = 1 << 30;
+
+/// Decodes the codestreams of the input. A capture is not decoded.
+pub fn decode<R: Source, W: Sink>(
+    alloc: Global,
+    form: Form,
+    input: &mut R,
+    output: &mut W,
+) -> Result<u8, Stop>
+    ensures { (workers feeders : ℕ) → IsDoneQuietly (Commands.Decode form workers feeders)
+        (change_of (R.left input.old) (R.left input.new) (R.faults input.old) (R.faults input.new))
+        (change_of (W.held output.old) (W.held output.new) (W.faults output.old) (W.faults output.new)) result }
+{
+    match form {
+        Form::Xs => decode_streams(alloc, input, output),
+        // No words ask for it.
+        Form::Rtp => Err(Stop::Memory),
+    }
+}
+
+/// Reads the whole input, and decodes the codestreams in it. Past its limit one byte is taken.
+fn decode_streams<R: Source, W: Sink>(
+    alloc: Global,
+    input: &mut R,
+    output: &mut W,
+) -> Result<u8, Stop>
+    ensures { (workers feeders : ℕ) → IsDoneQuietly (Commands.Decode Xs workers feeders)
+        (change_of (R.left input.old) (R.left input.new) (R.faults input.old) (R.faults input.new))
+        (change_of (W.held output.old) (W.held output.new) (W.faults output.old) (W.faults output.new)) result }
+{
+    match take_all(alloc, input, INPUT_LIMIT) {
+        Ok(bytes) => streams(alloc, bytes.as_slice(), output),
+        Err(TakeFault::Limit) => Err(Stop::Told(Note::InputLimit { limit: INPUT_LIMIT })),
+        Err(TakeFault::Failed) => Err(Stop::ReadFault),
+        Err(TakeFault::Memory) => Err(Stop::Memory),
+    }
+}
+
+/// Decodes codestreams one after the other, and writes each picture as it comes.
+fn streams<W: Sink>(alloc: Global, bytes: &[u8], output: &mut W) -> Result<u8, Stop>
+    requires { length bytes.now ≤ input_limit }
+    ensures decoded { AreDecoded bytes.now (change_of (W.held output.old) (W.held output.new) (W.faults output.old) (W.faults output.new)) result }
+    ensures stop { IsCommandStop result }
+{
+    let mut place = 0;
+    'streams: for picture in 0..MOST_PICTURES {
+        if place == bytes.len() {
+            return Ok(DONE);
+        }
+        place += next(alloc, picture, place, &bytes[place..], output)?;
+    }
+    if place == bytes.len() {
+        return Ok(DONE);
+    }
+    Err(Stop::Told(Note::InputPictures {
+        count: MOST_PICTURES + 1,
+    }))
+}
+
+/// Decodes the codestream that stands next and writes its picture; answers how many bytes it has.
+fn next<W: Sink>(
+    alloc: Global,
+    picture: u32,
+    place: usize,
+    rest: &[u8],
+    output: &mut W,
+) -> Result<usize, Stop>
+    requires few { picture < most_pictures }
+    requires some { rest.now ≢ [] }
+    requires within { place + length rest.now ≤ input_limit }
+    ensures next { (sequence : ℕ) → IsNext (record { pictures = picture; bytes = place; sequence = sequence }) rest.now (change_of (W.held output.old) (W.held output.new) (W.faults output.old) (W.faults output.new)) result }
+    ensures own { IfErr result IsOwnNote }
+    ensures later { IsLater (change_of (W.held output.old) (W.held output.new) (W.faults output.old) (W.faults output.new)) }
+{
+    match decode_picture(alloc, rest) {
+        Ok((planes, size)) => match write(alloc, &planes, output) {
+            Ok(()) => Ok(size),
+            Err(why) => Err(why),
+        },
+        Err(fault) => Err(refusal(alloc, picture, place, rest, fault)),
+    }
+}
+
+/// Writes a raw picture as one piece.
+fn write<W: Sink>(alloc: Global, planes: &Planes, output: &mut W) -> Result<(), Stop>
+    ensures { IsGiven (change_of (W.held output.old) (W.held output.new) (W.faults output.old) (W.faults output.new)) (raw_bytes planes.now) result }
+{
+    let raw = write_picture(alloc, planes)?;
+    give(output, raw.as_slice())
+}
+
+/// How it is told that no codestream stands next.
+fn refusal(alloc: Global, picture: u32, place: usize, rest: &[u8], fault: StreamFault) -> Stop
+    requires few { picture < most_pictures }
+    requires some { rest.now ≢ [] }
+    requires within { place + length rest.now ≤ input_limit }
+    requires fault { fault ≢ StreamFault.Memory → stream_fault rest.now ≡ Some fault }
+    ensures told { (sequence : ℕ) → IsTold (record { pictures = picture; bytes = place; sequence = sequence }) rest.now result }
+    ensures own { IsOwnNote result }
+{
+    match fault {
+        StreamFault::Cut { .. } => Stop::Told(Note::InputCut {
+            place: (place + rest.len()) as u64,
+        }),
+        StreamFault::Head(fault) => Stop::Told(Note::DamagedHeader { picture, fault }),
+        StreamFault::Slice { slice, fault } => Stop::Told(Note::DamagedSlice {
+            picture,
+            slice,
+            fault,
+        }),
+        StreamFault::End { .. } => bad_end(alloc, picture, rest),
+        StreamFault::Lcod { stated, length } => Stop::Told(Note::DamagedLength {
+            picture,
+            stated,
+            actual: length,
+        }),
+        StreamFault::Memory => Stop::Memory,
+    }
+}
+
+/// How it is told that the end marker is not there. It names the last slice of the header, which is read again.
+fn bad_end(alloc: Global, picture: u32, rest: &[u8]) -> Stop
+    requires few { length rest.now ≤ input_limit }
+    requires headed { head_fault rest.now ≡ None }
+    ensures { IsBadEnd picture rest.now result }
+{
+    match read_header(alloc, rest) {
+        Ok((header, _)) => Stop::Told(Note::DamagedSlice {
+            picture,
+            slice: last_slice(&header),
+            fault: SliceFault::End,
+        }),
+        Err(_) => Stop::Memory,
+    }
+}
+
+/// The number of the last slice.
+fn last_slice(header: &Header) -> u32
+    requires { IsAccepted header.now }
+    ensures { result ≡ slice_count header.now - 1 }
+{
+    Geometry::of(header).slices() - 1
+}

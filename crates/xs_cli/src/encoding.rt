@@ -1,0 +1,176 @@
+// Raw pictures become codestreams, one after the other: 'Command words'.
+ghost use Rattle.std.specs.Prelude.{◌≡◌, ◌≢◌, ◌+◌, ◌*◌, ◌%◌, ◌<◌, ◌≤◌, ◌^◌, ℕ, [], IfErr, length};
+ghost use Rattle.xs_params.specs.Picture.{raw_size};
+ghost use Rattle.xs_words.specs.declared.command.Command.TheVariants as Commands;
+ghost use Rattle.xs_endings.specs.Ends.{IsLater, change_of};
+ghost use Rattle.xs_endings.specs.Turns.{IsTaken, Writes};
+ghost use Rattle.xs_params.specs.Stream.{stream_bytes};
+ghost use Rattle.xs_capture.specs.Pictures.{most_pictures};
+ghost use Rattle.xs_cli.specs.Encoded.{encode_turn, written_as};
+ghost use Rattle.xs_cli.specs.Places.{IsStreamOf, before_of};
+ghost use Rattle.xs_cli.specs.Steps.{IsDoneQuietly, IsOwnNote};
+
+use crate::input::{DONE, MOST_PICTURES, read};
+use std::alloc::Global;
+use xs_endings::{Stop, give};
+use xs_faults::SliceRefusal;
+use xs_io::{Sink, Source};
+use xs_notes::Note;
+use xs_params::{Checked, Stream};
+use xs_picture::encode_picture;
+use xs_samples::{SampleFault, raw_size, read_picture};
+use xs_words::Form;
+
+/// Where a picture stands: its number, its place in the input, and the number of its first packet.
+#[derive(Clone, Copy)]
+pub struct Place {
+    picture: u32,
+    byte: u64,
+    sequence: u16,
+}
+
+/// Reads raw pictures one after the other, and writes each as it comes. At most one picture is held at a time.
+pub fn encode<R: Source, W: Sink>(
+    alloc: Global,
+    settings: &Checked,
+    form: Form,
+    input: &mut R,
+    output: &mut W,
+) -> Result<u8, Stop>
+    ensures { IsDoneQuietly (Commands.Encode settings.now form)
+        (change_of (R.left input.old) (R.left input.new) (R.faults input.old) (R.faults input.new))
+        (change_of (W.held output.old) (W.held output.new) (W.faults output.old) (W.faults output.new)) result }
+{
+    let size = raw_size(&settings.settings().shape);
+    let mut sequence = 0;
+    'pictures: for picture in 0..MOST_PICTURES {
+        let bytes = read(alloc, input, size)?;
+        let raw = bytes.as_slice();
+        if raw.is_empty() {
+            return Ok(DONE);
+        }
+        let place = place_of(picture, size, sequence);
+        let packets = put(alloc, settings, form, place, raw, output)?;
+        sequence = next_sequence(sequence, packets);
+    }
+    let more = read(alloc, input, 1)?;
+    let byte = more.as_slice();
+    if byte.is_empty() {
+        return Ok(DONE);
+    }
+    Err(Stop::Told(Note::InputPictures {
+        count: MOST_PICTURES + 1,
+    }))
+}
+
+/// Where a picture stands.
+fn place_of(picture: u32, size: usize, sequence: u16) -> Place
+    requires few { picture < most_pictures }
+    requires short { size < 2 ^ 28 }
+    ensures place { before_of result ≡ record { pictures = picture; bytes = picture * size; sequence = sequence } }
+    ensures picture { result.picture ≡ picture }
+    ensures small { result.byte ≤ 2 ^ 36 }
+{
+    Place {
+        picture,
+        byte: u64::from(picture) * size as u64,
+        sequence,
+    }
+}
+
+/// The number of the packet that comes after so many.
+fn next_sequence(sequence: u16, packets: u32) -> u16
+    ensures { result ≡ (sequence + packets) % 2 ^ 16 }
+{
+    sequence.wrapping_add((packets % (1 << 16)) as u16)
+}
+
+/// Encodes and writes one picture, and answers the number of its packets.
+fn put<W: Sink>(
+    alloc: Global,
+    settings: &Checked,
+    form: Form,
+    place: Place,
+    bytes: &[u8],
+    output: &mut W,
+) -> Result<u32, Stop>
+    requires few { place.picture < most_pictures }
+    requires small { place.byte ≤ 2 ^ 36 }
+    requires some { bytes.now ≢ [] }
+    requires most { length bytes.now ≤ raw_size settings.now.shape }
+    ensures taken { IsTaken (change_of (W.held output.old) (W.held output.new) (W.faults output.old) (W.faults output.new)) (encode_turn settings.now form (before_of place) bytes.now) result }
+    ensures own { IfErr result IsOwnNote }
+    ensures later { IsLater (change_of (W.held output.old) (W.held output.new) (W.faults output.old) (W.faults output.new)) }
+{
+    let stream = stream_of(alloc, settings, place, bytes)?;
+    write(alloc, settings, form, place, &stream, output)
+}
+
+/// The codestream of a picture.
+fn stream_of(alloc: Global, settings: &Checked, place: Place, bytes: &[u8]) -> Result<Stream, Stop>
+    requires few { place.picture < most_pictures }
+    requires small { place.byte ≤ 2 ^ 36 }
+    requires some { bytes.now ≢ [] }
+    requires most { length bytes.now ≤ raw_size settings.now.shape }
+    ensures stream { IsStreamOf settings.now (before_of place) bytes.now result }
+    ensures own { IfErr result IsOwnNote }
+{
+    let shape = &settings.settings().shape;
+    if bytes.len() < raw_size(shape) {
+        return Err(Stop::Told(Note::InputCut {
+            place: place.byte + bytes.len() as u64,
+        }));
+    }
+    let planes = match read_picture(alloc, shape, bytes) {
+        Ok(planes) => planes,
+        Err(SampleFault::Sample { place: at }) => {
+            return Err(Stop::Told(Note::InputSample {
+                place: place.byte + u64::from(at),
+            }));
+        }
+        Err(SampleFault::Memory) => return Err(Stop::Memory),
+    };
+    match encode_picture(alloc, &planes, settings) {
+        Ok(stream) => Ok(stream),
+        Err(SliceRefusal::Budget(budget)) => Err(Stop::Told(Note::Budget {
+            picture: place.picture,
+            slice: budget.slice,
+            size: budget.size,
+            share: budget.share,
+        })),
+        Err(SliceRefusal::Memory) => Err(Stop::Memory),
+    }
+}
+
+/// Writes a codestream as one piece, or its packets as one piece each.
+fn write<W: Sink>(
+    alloc: Global,
+    settings: &Checked,
+    form: Form,
+    place: Place,
+    stream: &Stream,
+    output: &mut W,
+) -> Result<u32, Stop>
+    ensures taken { IsTaken (change_of (W.held output.old) (W.held output.new) (W.faults output.old) (W.faults output.new)) (written_as settings.now form (before_of place) stream.now) result }
+    ensures own { IfErr result IsOwnNote }
+    ensures later { IsLater (change_of (W.held output.old) (W.held output.new) (W.faults output.old) (W.faults output.new)) }
+{
+    match form {
+        Form::Xs => write_stream(alloc, stream, output),
+        // No words ask for it.
+        Form::Rtp => Err(Stop::Memory),
+    }
+}
+
+/// Writes a codestream, which has no packets.
+fn write_stream<W: Sink>(alloc: Global, stream: &Stream, output: &mut W) -> Result<u32, Stop>
+    ensures taken { (size : ℕ) → IsTaken (change_of (W.held output.old) (W.held output.new) (W.faults output.old) (W.faults output.new)) (Writes size (stream_bytes stream.now) 0) result }
+    ensures own { IfErr result IsOwnNote }
+    ensures later { IsLater (change_of (W.held output.old) (W.held output.new) (W.faults output.old) (W.faults output.new)) }
+{
+    let bytes = stream.bytes(alloc)?;
+    match give(output, bytes.as_slice()) {
+        Ok(()) => Ok(0),
+        Err(why) => Err(why),
+    }
+}

@@ -1,0 +1,4 @@
+pub mod Changes
+pub mod Closing
+pub mod Turns
+pub mod Pictures
