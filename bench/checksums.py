@@ -7,10 +7,11 @@ import pathlib
 import re
 import sys
 
-from reference import BW, FQ, band_types, geometry, synthesise
+from plain.layout import SAMPLING, Header
+from plain.signal import back
 
 TEST = pathlib.Path(__file__).parent.parent / "crates/xs_codec_tests/src/decoding.rt"
-SAMPLING = {1: (1,), 422: (1, 2, 2), 444: (1, 1, 1)}
+FORMATS = {1: "mono", 422: "422", 444: "444"}
 
 
 def coefficient(band, line, column):
@@ -18,30 +19,10 @@ def coefficient(band, line, column):
     return (total + line % 1000 * (column % 1000)) % 31 * 160 - 2400
 
 
-def component(width, height, nlx, nly, number, count):
-    """The samples of a component before colour and scaling. The band of a type has the number type * count + component."""
-    widths, heights = geometry(width, height, nlx, nly)
-    planes = []
-    for kind in range(len(band_types(nlx, nly))):
-        band = kind * count + number
-        planes.append([[coefficient(band, line, k) << FQ for k in range(widths[kind])] for line in range(heights[kind])])
-    return synthesise(planes, nlx, nly)
-
-
-def inverse_colour(y, u, v):
-    green = y - (u + v >> 2)
-    return v + green, green, u + green
-
-
 def decoded(width, height, form, depth, nlx, nly, colour):
-    steps = SAMPLING[form]
-    planes = [component(-(-width // step), height, nlx, nly, k, len(steps)) for k, step in enumerate(steps)]
-    if colour:
-        rows = [[inverse_colour(*at) for at in zip(*lines)] for lines in zip(*planes)]
-        planes = [[[at[k] for at in row] for row in rows] for k in range(3)]
-    shift = BW - depth
-    sample = lambda v: min(max((v + 2 ** (BW - 1) + 2 ** (shift - 1)) >> shift, 0), 2**depth - 1)
-    return [[[sample(v) for v in row] for row in plane] for plane in planes]
+    header = Header(width, height, SAMPLING[FORMATS[form]], depth, colour=bool(colour), nlx=nlx, nly=nly)
+    rows = lambda band: [[coefficient(band.number, line, k) for k in range(band.width)] for line in range(band.height)]
+    return back(header, [rows(band) for band in header.bands])
 
 
 def checksum(planes):

@@ -24,3 +24,11 @@ make_picture() {
     noise) head -c "$2" /dev/urandom ;;
     esac
 }
+
+# Compares the built program with the reference (bench/reference.py) on cases of a kind (bench/cases.py): its kind, how many, and the
+# script's own words, which are the seed and another number of cases.
+compare_cases() {
+    program=$(built xsx 'rt run')
+    command -v python3 >/dev/null || { echo "no python3: skipped" >&2; exit 0; }
+    nice python3 "$top/bench/compare.py" "$1" "${3:-1}" 0 "${4:-$2}" "$program"
+}

@@ -24,11 +24,18 @@ run() {
 make_picture black 127 >"$folder/short"
 make_picture black 128 >"$folder/picture"
 run $words <"$folder/short"
-ended 'a picture that is a byte short' 3 'input form'
-run decode --form rtp <"$folder/picture"
+ended 'a picture that is a byte short' 3 'input cut 127'
+run $words </dev/null
+ended 'no picture' 0 ''
+run decode --form pcap <"$folder/picture"
 ended 'words that are no command' 1 'words 2'
-run encode --form xs --width 31 --height 4 --format mono --nlx 1 --nly 0 --quant deadzone --share 400 <"$folder/picture"
+run encode --width 31 --height 4 --share 400 <"$folder/picture"
 ended 'a setting out of range' 2 'setting width 31'
+run decode --workers 17 <"$folder/picture"
+ended 'too many workers' 2 'setting workers 17'
+make_picture white 640 >"$folder/tall"
+run encode --form xs --width 32 --height 20 --format mono --nlx 1 --nly 0 --slice 20 --share 65 <"$folder/tall"
+ended 'a slice over its share' 4 'budget picture 0 slice 0 size 246 share 65'
 run $words <"$folder"
 ended 'an input that fails' 7 'read fault'
 run "$(printf 'encode\377')" <"$folder/picture"
@@ -36,9 +43,11 @@ ended 'a word that is not UTF-8' 1 ''
 status=0
 make_picture black 1073741825 | "$program" decode --form xs >"$folder/output" 2>"$folder/notes" || status=$?
 ended 'an input past its limit' 3 'input limit 1073741824'
+run decode --form xs <"$folder"
+ended 'an input of codestreams that fails' 7 'read fault'
 status=0
 "$program" $words <"$folder/picture" >/dev/full 2>"$folder/notes" || status=$?
 ended 'an output that is full' 8 ''
 status=0
-"$program" decode <"$folder/picture" >"$folder/output" 2>/dev/full || status=$?
+"$program" decode --form xs <"$folder/short" >"$folder/output" 2>/dev/full || status=$?
 ended 'notes that are full' 8 ''
