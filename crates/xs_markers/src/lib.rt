@@ -17,7 +17,6 @@ mod segments;
 mod write;
 
 pub use boxes::skip_boxes;
-pub use fields::bytes_of_fields;
 pub use laws::{header_read_again, header_units_known, headers_known};
 pub use read::read_header;
 pub use write::write_header;

@@ -28,7 +28,7 @@ use Rattle.xs_decoding.specs.Decoded.{IsDecodingOf, IsPictureOf}
 use Rattle.xs_decoding.proofs.Within.{decoded_within}
 use Rattle.xs_picture.specs.Coefs.{Coefs, rows_of_slices}
 use Rattle.xs_picture.specs.Faults.{stream_fault}
-use Rattle.xs_picture.specs.StreamRead.{AreSlicesRead, IsPictureRead, IsStreamRead, end_fault}
+use Rattle.xs_picture.specs.StreamRead.{AreSlicesRead, IsPictureRead, IsStreamRead, eoc_fault}
 use Rattle.xs_picture.proofs.Coverage.{slice_there}
 
 -- The first of some faults
@@ -121,22 +121,22 @@ after_slices h bytes start none = ap (λ o. first_some (o ∷ when (nat_lt (leng
     ∷ when (not (is_same (take 2 (drop (end_place h bytes start) bytes)) eoc)) (fault.End (end_place h bytes start)) ∷ length_fault h (end_place h bytes start + 2) ∷ [])) none
 
 pub end_refused : (h : Header) (bytes : List ℕ) (start : ℕ) (slices : List (List BandLines)) (place : ℕ) (f : StreamFault) → IsHeaderRead h bytes start → AreSlicesRead h bytes start (slice_count h) slices place
-    → end_fault bytes place ≡ Some f → stream_fault bytes ≡ Some f
+    → eoc_fault bytes place ≡ Some f → stream_fault bytes ≡ Some f
 end_refused h bytes start slices place f head so here =
     after_header h bytes start head ∙ after_slices h bytes start (slices_whole h bytes start (slice_count h) slices place so refl)
     ∙ two_found (when (nat_lt (length bytes) (end_place h bytes start + 2)) (fault.Cut (length bytes))) (when (not (is_same (take 2 (drop (end_place h bytes start) bytes)) eoc)) (fault.End (end_place h bytes start)))
-    (length_fault h (end_place h bytes start + 2)) f (ap (end_fault bytes) so.ends ∙ here)
+    (length_fault h (end_place h bytes start + 2)) f (ap (eoc_fault bytes) so.ends ∙ here)
 
 after_end : (h : Header) (bytes : List ℕ) (start : ℕ) (slices : List (List BandLines)) (place end : ℕ) → IsHeaderRead h bytes start → AreSlicesRead h bytes start (slice_count h) slices place
-    → end_fault bytes place ≡ None → end ≡ place + 2 → stream_fault bytes ≡ length_fault h end
+    → eoc_fault bytes place ≡ None → end ≡ place + 2 → stream_fault bytes ≡ length_fault h end
 after_end h bytes start slices place end head so none next =
     after_header h bytes start head ∙ after_slices h bytes start (slices_whole h bytes start (slice_count h) slices place so refl)
     ∙ two_passed (when (nat_lt (length bytes) (end_place h bytes start + 2)) (fault.Cut (length bytes))) (when (not (is_same (take 2 (drop (end_place h bytes start) bytes)) eoc)) (fault.End (end_place h bytes start)))
-    (length_fault h (end_place h bytes start + 2)) (ap (end_fault bytes) so.ends ∙ none)
+    (length_fault h (end_place h bytes start + 2)) (ap (eoc_fault bytes) so.ends ∙ none)
     ∙ ap (length_fault h) (ap (λ k. k + 2) so.ends ∙ sym next)
 
 pub length_refused : (h : Header) (bytes : List ℕ) (start : ℕ) (slices : List (List BandLines)) (place end : ℕ) → IsHeaderRead h bytes start → AreSlicesRead h bytes start (slice_count h) slices place
-    → end_fault bytes place ≡ None → end ≡ place + 2 → h.lcod ≢ 0 → h.lcod ≢ end → stream_fault bytes ≡ Some (fault.Lcod h.lcod end)
+    → eoc_fault bytes place ≡ None → end ≡ place + 2 → h.lcod ≢ 0 → h.lcod ≢ end → stream_fault bytes ≡ Some (fault.Lcod h.lcod end)
 length_refused h bytes start slices place end head so none next some unlike =
     after_end h bytes start slices place end head so none next
     ∙ ap (λ t. when (not (t || nat_eq h.lcod end)) (fault.Lcod h.lcod end)) (ne_eqb h.lcod 0 some)
@@ -153,7 +153,7 @@ length_right h end (inr same) = ap (λ t. when (not (nat_eq h.lcod 0 || t)) (fau
 -- What was read
 
 pub stream_read : (c : Coefs) (bytes : List ℕ) (start place end : ℕ) → IsHeaderRead c.header bytes start → end ≤ length bytes → AreSlicesRead c.header bytes start (slice_count c.header) c.slices place
-    → end_fault bytes place ≡ None → drop place bytes ≡ eoc ++ drop end bytes → end ≡ place + 2 → (c.header.lcod ≡ 0) ⊎ (c.header.lcod ≡ end) → IsStreamRead c bytes end
+    → eoc_fault bytes place ≡ None → drop place bytes ≡ eoc ++ drop end bytes → end ≡ place + 2 → (c.header.lcod ≡ 0) ⊎ (c.header.lcod ≡ end) → IsStreamRead c bytes end
 stream_read c bytes start place end head enough so none ended next stated = record {
   no_fault = after_end h bytes start c.slices place end head so none next ∙ length_right h end stated;
   ends = ap (λ x. end_place x bytes (header_end bytes) + 2) head.header ∙ ap (λ n. end_place h bytes n + 2) head.ends ∙ ap (λ n. n + 2) so.ends ∙ sym next;

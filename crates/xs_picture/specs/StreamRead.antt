@@ -35,8 +35,8 @@ pub record AreSlicesRead (h : Header) (bytes : List ℕ) (start count : ℕ) (sl
       → rows_of_slices h slices band line column ≡ dequantised_rows h content band line column
 
 -- the fault of bytes that do not have the end marker at a place
-abbrev pub end_fault : List ℕ → ℕ → Option StreamFault
-end_fault bytes place =
+abbrev pub eoc_fault : List ℕ → ℕ → Option StreamFault
+eoc_fault bytes place =
     first_some (when (nat_lt (length bytes) (place + 2)) (fault.Cut (length bytes)) ∷ when (not (is_same (take 2 (drop place bytes)) eoc)) (fault.End place) ∷ [])
 
 -- the bytes begin with a codestream, which has no fault and ends at n, of a content that the coefficients show

@@ -6,7 +6,7 @@ ghost use Rattle.xs_params.specs.Markers.{eoc};
 ghost use Rattle.xs_markers.specs.Read.{IsHeaderRead};
 ghost use Rattle.xs_reading.specs.Stream.{slices_fault, stream_fault_of_head as fault_of_head, stream_fault_of_slice as fault_of_slice};
 ghost use Rattle.xs_picture.specs.Faults.{stream_fault};
-ghost use Rattle.xs_picture.specs.StreamRead.{AreSlicesRead, IsStreamRead, end_fault};
+ghost use Rattle.xs_picture.specs.StreamRead.{AreSlicesRead, IsStreamRead, eoc_fault};
 
 use crate::decode::coefs::StreamCoefs;
 use std::alloc::Global;
@@ -122,7 +122,7 @@ fn has_end(bytes: &[u8], place: usize) -> bool
 fn read_end(bytes: &[u8], place: usize) -> Result<usize, StreamFault>
     requires few { length bytes.now < 2 ^ 32 }
     requires within { place ≤ length bytes.now }
-    ensures first { result_err result ≡ end_fault bytes.now place }
+    ensures first { result_err result ≡ eoc_fault bytes.now place }
     ensures place { IfOk result (λ end. end ≡ place + 2) }
     ensures within { IfOk result (λ end. end ≤ length bytes.now) }
     ensures read { IfOk result (λ end. drop place bytes.now ≡ eoc ++ drop end bytes.now) }
