@@ -16,6 +16,14 @@ pub fn magnitudes_at(row: &[i32], group: usize) -> [u32; 4]
     ensures { result ≡ map (λ column. unsigned_abs (entries_of row.now column)) (columns_of group) }
 {
     let first = 4 * group;
+    if first + 4 <= row.len() {
+        return [
+            magnitude_in(row, first),
+            magnitude_in(row, first + 1),
+            magnitude_in(row, first + 2),
+            magnitude_in(row, first + 3),
+        ];
+    }
     [
         magnitude(row, first),
         magnitude(row, first + 1),
@@ -24,12 +32,20 @@ pub fn magnitudes_at(row: &[i32], group: usize) -> [u32; 4]
     ]
 }
 
-// The magnitude at a column.
+// The magnitude at a column of the row.
+fn magnitude_in(row: &[i32], column: usize) -> u32
+    requires { column < length row.now }
+    ensures { result ≡ unsigned_abs (entries_of row.now column) }
+{
+    row[column].unsigned_abs()
+}
+
+// The magnitude at a column; 0 past the row.
 fn magnitude(row: &[i32], column: usize) -> u32
     ensures { result ≡ unsigned_abs (entries_of row.now column) }
 {
     if column < row.len() {
-        row[column].unsigned_abs()
+        magnitude_in(row, column)
     } else {
         0
     }

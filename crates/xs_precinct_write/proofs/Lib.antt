@@ -8,3 +8,4 @@ pub mod Alikes
 pub mod Packets
 pub mod Precincts
 pub mod Modes
+pub mod Coded

@@ -1,8 +1,8 @@
 -- The rows of a slice at a candidate, and what its precincts are written from: 'Rate choice', and 'Slice, precinct and packet'.
-use Rattle.std.specs.Prelude.{◌≡◌, ℕ, false, List, length, slice_index_or}
+use Rattle.std.specs.Prelude.{◌≡◌, ℕ, ◌<◌, false, List, length, slice_index_or}
 use Rattle.std.specs.List.{Contains}
 use Rattle.xs_params.specs.Accepted.{IsAccepted}
-use Rattle.xs_params.specs.Geometry.{geometry_of, precincts_of}
+use Rattle.xs_params.specs.Geometry.{bands_of, geometry_of, precincts_of}
 use Rattle.xs_geometry.specs.SliceLines.{AreLinesOf, rows_held}
 use Rattle.xs_grammar.specs.Precinct.{Content}
 use Rattle.xs_rate.specs.Chosen.{content_at, mode_of}
@@ -30,6 +30,10 @@ pub record HasPrecinct (s : SliceAt) (precinct : ℕ) : Type 0 where
   pub slice : ℕ
   pub is_slice : IsSliceAt slice s
   pub there : Contains (precincts_of s.header.now slice) precinct
+
+-- the modes of its bands in it
+abbrev pub AreModesIn : SliceAt → ℕ → List ℕ → Type 0
+AreModesIn s precinct modes = (band : ℕ) → band < bands_of s.header.now → slice_index_or modes band 0 ≡ modes_in s precinct band
 
 -- lines of the same bands, in the same modes
 pub record AreAlike (old new : List Outgoing) : Type 0 where

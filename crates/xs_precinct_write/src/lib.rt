@@ -3,4 +3,6 @@
 
 mod write;
 
-pub use write::{FilledPrecinct, Scratch, SliceAt, write_filled_precinct, write_precinct};
+pub use write::{
+    FilledPrecinct, Scratch, SliceAt, modes_at, write_filled_precinct, write_precinct,
+};

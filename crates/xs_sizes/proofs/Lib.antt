@@ -9,3 +9,4 @@ pub mod FirstBand
 pub mod PacketSizes
 pub mod Measuring
 pub mod Ends
+pub mod Lanes

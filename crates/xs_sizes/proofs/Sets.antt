@@ -1,5 +1,5 @@
 -- Entries of a list of which one was set.
-use Rattle.std.proofs.Common.{◌≡◌, ℕ, ◌+◌, ◌<◌, ◌≤◌, List, [], ◌∷◌, ◌++◌, length, get_or, refl, sym, ap, subst, ◌∙◌, arith, inl, inr, length-append}
+use Rattle.std.proofs.Common.{◌≡◌, ℕ, ◌+◌, ◌<◌, List, [], ◌∷◌, ◌++◌, length, get_or, refl, sym, ap, subst, ◌∙◌, arith, inl, inr, length-append}
 use Rattle.std.proofs.Math.ListN.{set}
 use Rattle.std.proofs.lemmas.List.{get_or-set_other, get_or_append_left}
 use Rattle.std.proofs.Math.Seq.{get_or-append_seam}
@@ -12,9 +12,6 @@ done_more P row k v inside old new j below =
       | inl same ↦ subst (λ i. P i (get_or (set row k v) i 0)) (sym same) (subst (P k) (sym (get_or-set_at row k k v 0 refl inside)) new)
       | inr other ↦ subst (P j) (sym (get_or-set_other row k j v 0 other)) (old j (omega (arith, other, below)))
     ]
-
-pub rest_less : (P : ℕ → ℕ → Type 0) (row : List ℕ) (k v : ℕ) → ((j : ℕ) → k ≤ j → P j (get_or row j 0)) → (j : ℕ) → k + 1 ≤ j → P j (get_or (set row k v) j 0)
-rest_less P row k v old j past = subst (P j) (sym (get_or-set_other row k j v 0 (λ same. absurd (omega (arith, same, past))))) (old j (omega (arith, past)))
 
 -- the items of a list behind which one was pushed
 pub each_pushed : {X : Type 0} (P : ℕ → X → Type 0) (xs : List X) (x : X) → ((k : ℕ) (d : X) → k < length xs → P k (get_or xs k d)) → P (length xs) x → (k : ℕ) (d : X) → k < length xs + 1 → P k (get_or (xs ++ x ∷ []) k d)

@@ -82,6 +82,10 @@ pub record IsPacketOf (slice : ℕ) (bands : List BandLines) (precinct : ℕ) (p
   pub modes : AreAllModes coding.geometry.now (rows_held bands) precinct kept.modes.items
   pub lines : (band : ℕ) → packet.first ≤ band → band < packet.end → HasLine bands band packet.line
 
+-- the modes of the bands in a precinct at a candidate
+abbrev pub AreModesAt : Header → Rows → Candidate → ℕ → List ℕ → Type 0
+AreModesAt h rows candidate precinct modes = (band : ℕ) → band < bands_of h → slice_index_or modes band 0 ≡ mode_of h (content_at h rows candidate) precinct band
+
 -- the bytes of a packet whose parts have these bits, and whether each part has room in its field
 abbrev pub parts_size : Bool → PartBits → ℕ
 parts_size apart bits = 5 + bytes_for bits.flags + bytes_for bits.counts + bytes_for bits.numbers + (if apart then bytes_for bits.signs else 0)

@@ -1,5 +1,5 @@
 //! The sizes of the lines of a band.
-ghost use Rattle.std.specs.Prelude.{◌≡◌, ℕ, ◌<◌, ◌≤◌, length, map, replicate, IfOk, OnOk};
+ghost use Rattle.std.specs.Prelude.{◌≡◌, ℕ, ◌<◌, ◌≤◌, [], length, map, replicate, IfOk, OnOk};
 ghost use Rattle.xs_bits.specs.Counts.{AreCounts};
 ghost use Rattle.xs_lists.specs.Spelling.{upto};
 ghost use Rattle.xs_params.specs.Geometry.{bands_of};
@@ -35,33 +35,45 @@ pub struct Counting<'a> {
     pub signs: bool,
 }
 
-// The planes of a line's code groups, of the line above, and none.
+/// The planes of a line's code groups, of the line above, and none.
 #[derive(Drop)]
-struct Scratch {
-    planes: Vec<u8>,
-    above: Vec<u8>,
-    none: Vec<u8>,
+pub struct LineScratch {
+    pub planes: Vec<u8>,
+    pub above: Vec<u8>,
+    pub none: Vec<u8>,
 }
 
-/// The sizes of the lines of a band.
-pub fn count_band(alloc: Global, counting: &Counting, band: u32) -> Result<BandCounts, Memory>
+impl LineScratch {
+    /// Room that grows with the lines.
+    pub fn new(alloc: Global) -> LineScratch {
+        LineScratch {
+            planes: Vec::new(alloc),
+            above: Vec::new(alloc),
+            none: Vec::new(alloc),
+        }
+    }
+}
+
+/// The sizes of the lines of a band, in an empty list.
+pub fn count_band(
+    counting: &Counting,
+    band: u32,
+    scratch: &mut LineScratch,
+    room: Vec<CutSizes>,
+) -> Result<BandCounts, Memory>
     requires lines { (slice : ℕ) × AreLinesOf counting.now.geometry.now slice counting.now.rows.now }
     requires band { band < bands_of counting.now.geometry.now }
     requires table { AreLengths counting.now.table.now }
     requires small { AreSmall (rows_held counting.now.rows.now) }
+    requires empty { room.items ≡ [] }
     ensures { IfOk result (IsBandCounted counting.now.geometry.now counting.now.rows.now counting.now.signs band) }
 {
     let groups = (counting.geometry.band_width(band) + 3) / 4;
     let (first, end) = counting.rows.lines(band);
-    let mut scratch = blank(alloc, groups)?;
-    let mut cuts = Vec::new(alloc);
+    reset(scratch, groups)?;
+    let mut cuts = room;
     'lines: for line in first..end {
-        add_line(
-            &mut cuts,
-            &mut scratch,
-            counting,
-            counting.rows.row(band, line),
-        )?;
+        add_line(&mut cuts, scratch, counting, counting.rows.row(band, line))?;
     }
     Ok(BandCounts {
         first,
@@ -71,29 +83,28 @@ pub fn count_band(alloc: Global, counting: &Counting, band: u32) -> Result<BandC
 }
 
 // No planes of so many code groups.
-fn blank(alloc: Global, groups: u32) -> Result<Scratch, Memory>
-    ensures planes { IfOk result (λ scratch. scratch.planes.items ≡ replicate groups 0) }
-    ensures above { IfOk result (λ scratch. scratch.above.items ≡ replicate groups 0) }
-    ensures none { IfOk result (λ scratch. scratch.none.items ≡ replicate groups 0) }
+fn reset(scratch: &mut LineScratch, groups: u32) -> Result<(), Memory>
+    ensures planes { OnOk result (scratch.new.planes.items ≡ replicate groups 0) }
+    ensures above { OnOk result (scratch.new.above.items ≡ replicate groups 0) }
+    ensures none { OnOk result (scratch.new.none.items ≡ replicate groups 0) }
 {
-    Ok(Scratch {
-        planes: zeros(alloc, groups)?,
-        above: zeros(alloc, groups)?,
-        none: zeros(alloc, groups)?,
-    })
+    set_zeros(&mut scratch.planes, groups)?;
+    set_zeros(&mut scratch.above, groups)?;
+    set_zeros(&mut scratch.none, groups)
 }
 
-// So many zeros.
-fn zeros(alloc: Global, count: u32) -> Result<Vec<u8>, Memory>
-    ensures { IfOk result (λ zeros. zeros.items ≡ replicate count 0) }
+// So many zeros in place of what is there.
+fn set_zeros(items: &mut Vec<u8>, count: u32) -> Result<(), Memory>
+    ensures { OnOk result (items.new.items ≡ replicate count 0) }
 {
-    vec![in alloc; 0; count as usize].map_err(|_| Memory)
+    items.clear();
+    items.resize(count as usize, 0).map_err(|_| Memory)
 }
 
 // Adds the sizes of a line, whose planes are then those above.
 fn add_line(
     cuts: &mut Vec<CutSizes>,
-    scratch: &mut Scratch,
+    scratch: &mut LineScratch,
     counting: &Counting,
     row: &[i32],
 ) -> Result<(), Memory>
@@ -121,7 +132,7 @@ fn add_line(
 }
 
 // Counts the planes of a row.
-fn fill(scratch: &mut Scratch, row: &[i32])
+fn fill(scratch: &mut LineScratch, row: &[i32])
     requires small { IsSmallRow (entries_of row.now) }
     requires few { length scratch.old.planes.items ≤ 2048 }
     ensures planes { scratch.new.planes.items ≡ map (planes_of (entries_of row.now)) (upto (length scratch.old.planes.items)) }
@@ -133,7 +144,7 @@ fn fill(scratch: &mut Scratch, row: &[i32])
 }
 
 // Takes the planes for those above.
-fn rise(scratch: &mut Scratch)
+fn rise(scratch: &mut LineScratch)
     requires { length scratch.old.above.items ≡ length scratch.old.planes.items }
     ensures planes { scratch.new.planes.items ≡ scratch.old.planes.items }
     ensures above { scratch.new.above.items ≡ scratch.old.planes.items }

@@ -6,8 +6,9 @@ ghost use Rattle.xs_rate.specs.Laws.{AreSmall};
 ghost use Rattle.xs_sizes.specs.Lengths.{AreLengths};
 ghost use Rattle.xs_sizes.specs.Counted.{AreBandsCounted, AreCountsOf};
 
-use crate::bands::{BandCounts, Counting, count_band};
+use crate::bands::{BandCounts, Counting, LineScratch, count_band};
 use crate::lengths::length_table;
+use crate::line::CutSizes;
 use crate::precincts::{PrecinctCounts, keep_precincts};
 use std::alloc::Global;
 use xs_geometry::{Geometry, SliceRows};
@@ -32,31 +33,64 @@ impl SliceCounts {
         ensures counted { IfOk result (AreCountsOf geometry.now rows.now) }
         ensures signs { IfOk result (λ counts. counts.signs ≡ true) }
     {
-        SliceCounts::with_signs(alloc, geometry, rows, true)
+        let mut scratch = SizeScratch::new(alloc)?;
+        scratch.count(alloc, geometry, rows, true)
+    }
+}
+
+/// Room in which the slices of a picture are counted one after the other: the bits of counts by their planes, the planes of a
+/// line, and the lists of counts that are no longer needed.
+#[derive(Drop)]
+pub struct SizeScratch {
+    pub table: Vec<[u8; 16]>,
+    pub line: LineScratch,
+    pub bands: Vec<BandCounts>,
+    pub precincts: Vec<PrecinctCounts>,
+}
+
+impl SizeScratch {
+    /// Room that grows with the slices.
+    pub fn new(alloc: Global) -> Result<SizeScratch, Memory>
+        ensures table { IfOk result (λ scratch. AreLengths scratch.table.items) }
+    {
+        Ok(SizeScratch {
+            table: length_table(alloc)?,
+            line: LineScratch::new(alloc),
+            bands: Vec::new(alloc),
+            precincts: Vec::new(alloc),
+        })
     }
 
-    /// The same; without signs, for those that stand among the data alone.
-    pub fn with_signs(
+    /// The counts of the rows of a slice; without signs, for those that stand among the data alone.
+    pub fn count(
+        &mut self,
         alloc: Global,
         geometry: &Geometry,
         rows: &SliceRows,
         signs: bool,
     ) -> Result<SliceCounts, Memory>
+        requires table { AreLengths self.old.table.items }
         requires lines { (slice : ℕ) × (slice < slice_count geometry.now) × AreLinesOf geometry.now slice rows.now }
         requires small { AreSmall (rows_held rows.now) }
         ensures counted { IfOk result (AreCountsOf geometry.now rows.now) }
         ensures signs { IfOk result (λ counts. counts.signs ≡ signs) }
+        ensures table { self.new.table ≡ self.old.table }
     {
-        let table = length_table(alloc)?;
         let counting = Counting {
             geometry,
             rows,
-            table: table.as_slice(),
+            table: self.table.as_slice(),
             signs,
         };
-        let bands = count_bands(alloc, &counting)?;
+        let bands = count_bands(alloc, &counting, &mut self.line, &mut self.bands)?;
         let (first, end) = rows.lines(0);
-        let precincts = keep_precincts(alloc, &counting, bands.as_slice(), (first, end))?;
+        let precincts = keep_precincts(
+            alloc,
+            &counting,
+            bands.as_slice(),
+            (first, end),
+            &mut self.precincts,
+        )?;
         Ok(SliceCounts {
             signs,
             first,
@@ -64,10 +98,23 @@ impl SliceCounts {
             precincts,
         })
     }
+
+    /// Takes the lists of counts that are no longer needed.
+    pub fn keep(&mut self, counts: SliceCounts)
+        ensures table { self.new.table ≡ self.old.table }
+    {
+        self.bands = counts.bands;
+        self.precincts = counts.precincts;
+    }
 }
 
-// The sizes of the lines of all bands.
-fn count_bands(alloc: Global, counting: &Counting) -> Result<Vec<BandCounts>, Memory>
+// The sizes of the lines of all bands, in lists that are there where there are some.
+fn count_bands(
+    alloc: Global,
+    counting: &Counting,
+    scratch: &mut LineScratch,
+    spare: &mut Vec<BandCounts>,
+) -> Result<Vec<BandCounts>, Memory>
     requires lines { (slice : ℕ) × AreLinesOf counting.now.geometry.now slice counting.now.rows.now }
     requires table { AreLengths counting.now.table.now }
     requires small { AreSmall (rows_held counting.now.rows.now) }
@@ -75,10 +122,25 @@ fn count_bands(alloc: Global, counting: &Counting) -> Result<Vec<BandCounts>, Me
 {
     let mut bands = Vec::new(alloc);
     'bands: for band in 0..counting.geometry.bands() {
-        let counts = count_band(alloc, counting, band)?;
+        let room = empty_cuts(alloc, spare);
+        let counts = count_band(counting, band, scratch, room)?;
         push_band(&mut bands, counts)?;
     }
     Ok(bands)
+}
+
+// The list of a band that is no longer needed, or a new one, with nothing in it.
+fn empty_cuts(alloc: Global, spare: &mut Vec<BandCounts>) -> Vec<CutSizes>
+    ensures { result.items ≡ [] }
+{
+    match spare.pop() {
+        Some(counts) => {
+            let mut cuts = counts.cuts;
+            cuts.clear();
+            cuts
+        }
+        None => Vec::new(alloc),
+    }
 }
 
 // Appends the sizes of a band.

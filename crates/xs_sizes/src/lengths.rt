@@ -7,6 +7,7 @@ ghost use Rattle.xs_counts.specs.Known.{residual_size};
 ghost use Rattle.xs_sizes.specs.Lengths.{AreCountSizes, AreLengths, length_of, plain_line};
 
 use std::alloc::Global;
+use std::simd::prelude::*;
 use xs_counts::ones_for;
 use xs_io::Memory;
 
@@ -121,22 +122,44 @@ fn add_row(bits: &mut [u8; 16], row: &[u8; 16])
     requires room { (t : ℕ) → t ≤ 15 → slice_index_or bits.old t 0 + slice_index_or row.now t 0 < 256 }
     ensures { (t : ℕ) → t ≤ 15 → slice_index_or bits.new t 0 ≡ slice_index_or bits.old t 0 + slice_index_or row.now t 0 }
 {
-    'cuts: for t in 0..16 {
-        bits[t] += row[t];
-    }
+    *bits = (u8x16::from_array(*bits) + u8x16::from_array(*row)).to_array();
 }
 
 // Adds the bits of a significance group, of which those at the truncations from `same` on are left out.
 fn add(sizes: &mut CountSizes, bits: &[u8; 16], same: u8)
     requires room { (t : ℕ) → t ≤ 15 → slice_index_or sizes.old.all t 0 < 2 ^ 31 }
     requires room_kept { (t : ℕ) → t ≤ 15 → slice_index_or sizes.old.kept t 0 < 2 ^ 31 }
+    requires few { (t : ℕ) → t ≤ 15 → slice_index_or bits.now t 0 ≤ 240 }
     ensures all { (t : ℕ) → t ≤ 15 → slice_index_or sizes.new.all t 0 ≡ slice_index_or sizes.old.all t 0 + slice_index_or bits.now t 0 }
     ensures kept { (t : ℕ) → t ≤ 15 → slice_index_or sizes.new.kept t 0 ≡ slice_index_or sizes.old.kept t 0 + (if nat_le same t then 0 else slice_index_or bits.now t 0) }
 {
-    'cuts: for t in 0..16 {
-        sizes.all[t] += u32::from(bits[t]);
-        if (t as u8) < same {
-            sizes.kept[t] += u32::from(bits[t]);
-        }
-    }
+    sizes.all = plus(sizes.all, widened(*bits));
+    sizes.kept = plus(sizes.kept, widened(bits_below(*bits, same)));
+}
+
+// Adds bits at each truncation.
+fn plus(sizes: [u32; 16], bits: [u32; 16]) -> [u32; 16]
+    requires { (t : ℕ) → t ≤ 15 → slice_index_or sizes t 0 + slice_index_or bits t 0 < 2 ^ 32 }
+    ensures { (t : ℕ) → t ≤ 15 → slice_index_or result t 0 ≡ slice_index_or sizes t 0 + slice_index_or bits t 0 }
+{
+    (u32x16::from_array(sizes) + u32x16::from_array(bits)).to_array()
+}
+
+// The same bits with more room.
+fn widened(bits: [u8; 16]) -> [u32; 16]
+    ensures { (t : ℕ) → t ≤ 15 → slice_index_or result t 0 ≡ slice_index_or bits t 0 }
+{
+    u8x16::from_array(bits).cast::<u32>().to_array()
+}
+
+// The bits at the truncations below `same`, and none from there on.
+fn bits_below(bits: [u8; 16], same: u8) -> [u8; 16]
+    ensures { (t : ℕ) → t ≤ 15 → slice_index_or result t 0 ≡ (if nat_le same t then 0 else slice_index_or bits t 0) }
+{
+    let below = u8x16::from_array([0, 1, 2, 3, 4, 5, 6, 7, 8, 9, 10, 11, 12, 13, 14, 15]).simd_lt(
+        u8x16::splat(same),
+    );
+    below
+        .select(u8x16::from_array(bits), u8x16::splat(0))
+        .to_array()
 }

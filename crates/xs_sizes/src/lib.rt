@@ -12,7 +12,7 @@ mod packets;
 mod precincts;
 mod signs;
 
-pub use counts::SliceCounts;
+pub use counts::{SizeScratch, SliceCounts};
 pub use cuts::cuts_of;
-pub use measure::{precinct_bytes, slice_fits, slice_size};
+pub use measure::{precinct_bytes, precinct_modes, slice_fits, slice_size};
 pub use packets::{Coding, Measured};

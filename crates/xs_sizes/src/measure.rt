@@ -7,12 +7,12 @@ ghost use Rattle.xs_params.specs.Geometry.{bands_of, coding_header, precinct_cou
 ghost use Rattle.xs_geometry.specs.SliceLines.{BandLines, rows_held};
 ghost use Rattle.xs_rate.specs.Choice.{precinct_fits_at, precinct_size_at};
 ghost use Rattle.xs_rate.specs.Chosen.{fits_at, size_at};
-ghost use Rattle.xs_sizes.specs.Measured.{AreKept, IsCodedAt, IsCoding, header_in};
+ghost use Rattle.xs_sizes.specs.Measured.{AreKept, AreModesAt, IsCodedAt, IsCoding, header_in};
 ghost use Rattle.xs_sizes.specs.Packed.{packets_fit_at, packets_size_at};
 
 use crate::counts::SliceCounts;
 use crate::cuts::cuts_of;
-use crate::packets::{Coding, Measured, packet_size};
+use crate::packets::{Coding, Measured, mode_of, packet_size};
 use crate::precincts::PrecinctCounts;
 use xs_geometry::Geometry;
 use xs_layout::{Candidate, Quant};
@@ -97,6 +97,20 @@ pub fn precinct_size(coding: &Coding, precinct: u32, cuts: &[u8; 30]) -> Measure
         bytes: u64::from((40 + 2 * bands + 7) / 8) + packets.bytes,
         fits_fields: both(packets.fits_fields, packets.bytes < 1 << 24),
     }
+}
+
+/// The modes of the bands in a precinct, with these truncations of the bands; 0 past the last band.
+pub fn precinct_modes(coding: &Coding, precinct: u32, cuts: &[u8; 30]) -> [u8; 30]
+    requires coding { (slice : ℕ) × (bands : List BandLines) × IsCoding slice bands coding.now × Contains (precincts_of coding.now.geometry.now slice) precinct }
+    requires cuts { All (λ t. t ≤ 15) cuts.now }
+    ensures { (slice : ℕ) (bands : List BandLines) (weights : List Weight) (candidate : Candidate) → IsCodedAt slice bands weights candidate coding.now cuts.now → Contains (precincts_of coding.now.geometry.now slice) precinct → AreModesAt (header_in coding.now weights) (rows_held bands) candidate precinct result }
+{
+    let kept = kept_of(coding.counts, precinct);
+    let mut modes = [0; 30];
+    'bands: for band in 0..coding.geometry.bands() {
+        modes[band as usize] = mode_of(kept, band, cuts[band as usize]);
+    }
+    modes
 }
 
 // The first precinct of a slice, and one past the last.

@@ -83,8 +83,8 @@ fn line_bits(coding: &Coding, at: (u32, u32), t: u8, mode: u8) -> PartBits
     }
 }
 
-// The mode of a band at a truncation.
-fn mode_of(kept: &PrecinctCounts, band: u32, t: u8) -> u8
+/// The mode of a band at a truncation.
+pub fn mode_of(kept: &PrecinctCounts, band: u32, t: u8) -> u8
     requires cut { t ≤ 15 }
     requires there { band < length kept.now.modes.items }
     ensures { (none : List ℕ) → result ≡ slice_index_or (slice_index_or kept.now.modes.items band none) t 0 }

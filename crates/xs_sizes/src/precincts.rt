@@ -27,12 +27,14 @@ pub struct PrecinctCounts {
     pub modes: Vec<[u8; 16]>,
 }
 
-/// What is kept of the precincts from a first one to an end, which are those of the slice.
+/// What is kept of the precincts from a first one to an end, which are those of the slice, in room that is there where there is
+/// some.
 pub fn keep_precincts(
     alloc: Global,
     counting: &Counting,
     bands: &[BandCounts],
     precincts: (u32, u32),
+    spare: &mut Vec<PrecinctCounts>,
 ) -> Result<Vec<PrecinctCounts>, Memory>
     requires lines { (slice : ℕ) × AreLinesOf counting.now.geometry.now slice counting.now.rows.now × (first_line_of counting.now.geometry.now slice 0 ≡ precincts.0) × (end_line_of counting.now.geometry.now slice 0 ≡ precincts.1) }
     requires order { precincts.0 ≤ precincts.1 }
@@ -41,7 +43,8 @@ pub fn keep_precincts(
 {
     let mut kept = Vec::new(alloc);
     'precincts: for precinct in precincts.0..precincts.1 {
-        let counts = keep_precinct(alloc, counting, bands, precinct)?;
+        let room = empty_precinct(alloc, spare);
+        let counts = keep_precinct(counting, bands, precinct, room)?;
         push_precinct(&mut kept, counts)?;
     }
     Ok(kept)
@@ -54,30 +57,55 @@ fn push_precinct(kept: &mut Vec<PrecinctCounts>, counts: PrecinctCounts) -> Resu
     kept.push(counts).map_err(|_| Memory)
 }
 
-// What is kept of a precinct.
+// The room of a precinct that is no longer needed, or new room, with nothing in it.
+fn empty_precinct(alloc: Global, spare: &mut Vec<PrecinctCounts>) -> PrecinctCounts
+    ensures packets { result.packets.items ≡ [] }
+    ensures modes { result.modes.items ≡ [] }
+{
+    match spare.pop() {
+        Some(kept) => {
+            let mut empty = kept;
+            empty.packets.clear();
+            empty.modes.clear();
+            empty
+        }
+        None => PrecinctCounts {
+            packets: Vec::new(alloc),
+            modes: Vec::new(alloc),
+        },
+    }
+}
+
+// What is kept of a precinct, in empty room.
 fn keep_precinct(
-    alloc: Global,
     counting: &Counting,
     bands: &[BandCounts],
     precinct: u32,
+    room: PrecinctCounts,
 ) -> Result<PrecinctCounts, Memory>
     requires lines { (slice : ℕ) × AreLinesOf counting.now.geometry.now slice counting.now.rows.now × Contains (precincts_of counting.now.geometry.now slice) precinct }
     requires precinct { precinct < precinct_count counting.now.geometry.now }
     requires counted { AreBandsCounted counting.now.geometry.now counting.now.rows.now counting.now.signs bands.now }
+    requires packets { room.packets.items ≡ [] }
+    requires modes { room.modes.items ≡ [] }
     ensures { IfOk result (IsPrecinctKept counting.now.geometry.now (rows_held counting.now.rows.now) precinct) }
 {
-    Ok(PrecinctCounts {
-        packets: packets_in(alloc, counting.geometry, precinct)?,
-        modes: modes_of(alloc, counting, bands, precinct)?,
-    })
+    let mut kept = room;
+    list_packets(&mut kept.packets, counting.geometry, precinct)?;
+    list_modes(&mut kept.modes, counting, bands, precinct)?;
+    Ok(kept)
 }
 
-// The packets of a precinct.
-fn packets_in(alloc: Global, geometry: &Geometry, precinct: u32) -> Result<Vec<PacketBands>, Memory>
-    requires { precinct < precinct_count geometry.now }
-    ensures { IfOk result (λ packets. ArePacketsOf geometry.now precinct packets.items) }
+// Lists the packets of a precinct.
+fn list_packets(
+    packets: &mut Vec<PacketBands>,
+    geometry: &Geometry,
+    precinct: u32,
+) -> Result<(), Memory>
+    requires precinct { precinct < precinct_count geometry.now }
+    requires empty { packets.old.items ≡ [] }
+    ensures { OnOk result (ArePacketsOf geometry.now precinct packets.new.items) }
 {
-    let mut packets = Vec::new(alloc);
     'packets: for number in 0..geometry.packets(precinct) {
         let place = geometry.packet(precinct, number);
         let (first, end) = geometry.packet_bands(place);
@@ -86,9 +114,9 @@ fn packets_in(alloc: Global, geometry: &Geometry, precinct: u32) -> Result<Vec<P
             end,
             line: place.line,
         };
-        push_packet(&mut packets, packet)?;
+        push_packet(packets, packet)?;
     }
-    Ok(packets)
+    Ok(())
 }
 
 // Appends a packet.
@@ -98,24 +126,24 @@ fn push_packet(packets: &mut Vec<PacketBands>, packet: PacketBands) -> Result<()
     packets.push(packet).map_err(|_| Memory)
 }
 
-// The modes of the bands in a precinct.
-fn modes_of(
-    alloc: Global,
+// Lists the modes of the bands in a precinct.
+fn list_modes(
+    modes: &mut Vec<[u8; 16]>,
     counting: &Counting,
     bands: &[BandCounts],
     precinct: u32,
-) -> Result<Vec<[u8; 16]>, Memory>
+) -> Result<(), Memory>
     requires lines { (slice : ℕ) × AreLinesOf counting.now.geometry.now slice counting.now.rows.now × Contains (precincts_of counting.now.geometry.now slice) precinct }
     requires precinct { precinct < precinct_count counting.now.geometry.now }
     requires counted { AreBandsCounted counting.now.geometry.now counting.now.rows.now counting.now.signs bands.now }
-    ensures { IfOk result (λ modes. AreAllModes counting.now.geometry.now (rows_held counting.now.rows.now) precinct modes.items) }
+    requires empty { modes.old.items ≡ [] }
+    ensures { OnOk result (AreAllModes counting.now.geometry.now (rows_held counting.now.rows.now) precinct modes.new.items) }
 {
-    let mut modes = Vec::new(alloc);
     'bands: for band in 0..counting.geometry.bands() {
         let own = band_modes(counting, &bands[band as usize], (precinct, band));
-        push_modes(&mut modes, own)?;
+        push_modes(modes, own)?;
     }
-    Ok(modes)
+    Ok(())
 }
 
 // Appends the modes of a band.

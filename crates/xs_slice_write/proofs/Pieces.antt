@@ -1,22 +1,20 @@
 -- A precinct of a slice that is written.
-use Rattle.std.proofs.Common.{◌≡◌, ℕ, ◌+◌, ◌-◌, ◌*◌, ◌<◌, ◌≤◌, min, List, ◌++◌, refl, sym, ap, subst, ◌∙◌, arith, append-nil}
+use Rattle.std.proofs.Common.{◌≡◌, ℕ, ◌+◌, ◌-◌, ◌*◌, ◌<◌, ◌≤◌, min, List, ◌++◌, refl, sym, ap, ◌∙◌, arith, append-nil}
 use Rattle.std.proofs.lemmas.Bool.{false≢true}
-use Rattle.std.specs.Prelude.{Bool, true, false, not, nat_eq, if◌then◌else◌}
+use Rattle.std.specs.Prelude.{Bool, true, false, nat_eq, if◌then◌else◌}
 use Rattle.std.specs.List.{flat_map, range_with_len, Contains}
 use Rattle.xs_lists.proofs.Ranges.{range_end}
 use Rattle.xs_params.specs.declared.header.Header.{Header}
-use Rattle.xs_params.specs.Accepted.{IsAccepted}
-use Rattle.xs_params.specs.Geometry.{geometry_of, precinct_count, precincts_of}
-use Rattle.xs_geometry.specs.SliceLines.{BandLines, AreLinesOf}
-use Rattle.xs_geometry.proofs.WrittenRows.{geometry_kept}
-use Rattle.xs_sizes.specs.Counted.{AreCountsOf}
-use Rattle.xs_sizes.specs.declared.counts.SliceCounts.{SliceCounts}
-use Rattle.xs_slice_write.specs.Coded.{AreKeptOf}
+use Rattle.xs_params.specs.Geometry.{precinct_count, precincts_of}
 use Rattle.xs_geometry.proofs.PlaceFacts.{in_range}
 use Rattle.xs_grammar.specs.Coded.{precinct_bytes, precinct_fits, slice_bytes}
 use Rattle.xs_grammar.specs.Precinct.{Content}
 use Rattle.xs_grammar.specs.Slice.{slice_head}
+use Rattle.xs_precinct_write.proofs.Coded.{lines_of_geometry}
+use Rattle.xs_slice_write.specs.Coded.{AreKeptOf, IsCountedSlice}
 use Rattle.xs_slice_write.specs.Written.{last_filler}
+use Rattle.xs_slice_write.specs.declared.write.CountedSlice.{CountedSlice}
+use Rattle.xs_slice_write.specs.declared.write.WantedSlice.{WantedSlice}
 
 -- the precincts that are gone over
 pub record AreOf (h : Header) (slice first end : ℕ) : Type 0 where
@@ -49,24 +47,20 @@ slice_is h content mode filler slice first end precinct out are past whole =
 
 -- What is kept of the rows of a slice
 
-pub lines_kept : (h g : Header) (slice : ℕ) (bands : List BandLines) → g ≡ geometry_of h → AreLinesOf h slice bands → AreLinesOf g slice bands
-lines_kept h g slice bands same lines = subst (λ (x : Header). AreLinesOf x slice bands) (sym same) ((geometry_kept h slice bands).1 lines)
-
-pub kept_of : (h g : Header) (slice : ℕ) (bands : List BandLines) (counts : SliceCounts) → IsAccepted h → h.long_heads ≡ false → g ≡ geometry_of h → AreLinesOf h slice bands → AreCountsOf g bands counts → counts.signs ≡ h.signs_apart
-    → AreKeptOf h slice bands g counts
-kept_of h g slice bands counts accepted heads same lines counted signs = record {
-  heads = heads;
-  geometry = same;
-  weights = accepted.weights;
-  kept = record { counted = record { lines = lines_kept h g slice bands same lines; counted = counted }; signs = λ apart. signs ∙ apart };
+pub kept_of : (s : CountedSlice) (wanted : WantedSlice) → IsCountedSlice s wanted → AreKeptOf s.header.now wanted.slice wanted.rows.now s.geometry.now s.counts.now
+kept_of s wanted k = record {
+  heads = k.heads;
+  geometry = k.geometry;
+  weights = k.accepted.weights;
+  kept = record { counted = record { lines = lines_of_geometry s.header.now s.geometry.now wanted.slice wanted.rows.now k.geometry k.lines; counted = k.counts }; signs = λ apart. k.signs ∙ apart };
 }
 
 -- Filler where it is asked
 
-pub filler_none : (fill : Bool) (more : ℕ) → not fill ≡ true → ◌≡◌ {A = ℕ} 0 (if fill then more else 0)
-filler_none true more e = absurd (false≢true e)
+pub filler_none : (fill : Bool) (more : ℕ) → fill ≡ false → ◌≡◌ {A = ℕ} 0 (if fill then more else 0)
+filler_none true more e = absurd (false≢true (sym e))
 filler_none false more e = refl
 
-pub filler_some : (fill : Bool) (more : ℕ) → not fill ≡ false → more ≡ (if fill then more else 0)
+pub filler_some : (fill : Bool) (more : ℕ) → fill ≡ true → more ≡ (if fill then more else 0)
 filler_some true more e = refl
-filler_some false more e = absurd (false≢true (sym e))
+filler_some false more e = absurd (false≢true e)

@@ -1,7 +1,7 @@
 -- The precincts of a slice, with filler in the last of them.
 use Rattle.std.proofs.Common.{◌≡◌, ℕ, zero, suc, ◌+◌, ◌-◌, ◌*◌, ◌^◌, ◌<◌, ◌≤◌, min, List, [], ◌∷◌, ◌++◌, length, get_or, sum_by, refl, sym, ap, subst, ◌∙◌, arith, length-append}
-use Rattle.std.specs.Prelude.{Bool, true, false, nat_eq, nat_le, nat_lt, ◌&&◌, if◌then◌else◌, find, unwrap_or, Result, Ok, Err, Some, None, replicate, All}
-use Rattle.std.specs.List.{flat_map, list_all, range_with_len, AllByRecursion, Contains}
+use Rattle.std.specs.Prelude.{Bool, true, false, nat_eq, nat_le, nat_lt, if◌then◌else◌, find, unwrap_or, Result, Ok, Err, Some, replicate, All}
+use Rattle.std.specs.List.{flat_map, list_all, Contains}
 use Rattle.std.proofs.lemmas.Bool.{and_from, and_parts, false≢true, leb-true, lt-ltb, ltb-false, ltb-true}
 use Rattle.std.proofs.lemmas.List.Elements.{All-contains, All-from_recursion, recursion_from_All}
 use Rattle.std.proofs.lemmas.List.Sums.{sum_by-cons}

@@ -4,7 +4,6 @@ use Rattle.xs_layout.specs.declared.Candidate.{Candidate}
 use Rattle.xs_params.specs.declared.header.Header.{Header}
 use Rattle.xs_params.specs.Geometry.{precinct_count}
 use Rattle.xs_params.specs.Rows.{Rows}
-use Rattle.xs_faults.specs.declared.Budget.{Budget}
 use Rattle.xs_faults.specs.declared.SliceRefusal.{SliceRefusal}
 use Rattle.xs_faults.specs.declared.SliceRefusal.TheVariants as refusal
 use Rattle.xs_rate.specs.Choice.{choice_of, filled_slice_at}

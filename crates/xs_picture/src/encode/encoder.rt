@@ -15,7 +15,7 @@ use xs_geometry::{Geometry, SliceRows};
 use xs_io::{Memory, Octets};
 use xs_markers::write_header;
 use xs_params::{Checked, Planes, Stream};
-use xs_slice_write::write_slice;
+use xs_slice_write::{SliceScratch, WantedSlice, write_slice_in};
 
 /// The codestream of a picture, each slice at the first candidate at which it is within its share, and filled up to it
 /// where the settings say so; or the first slice that is over its share at the coarsest candidate, with that size.
@@ -49,10 +49,17 @@ fn encode_slices(
     let bands = analyse_picture(alloc, planes, &header)?;
     let geometry = Geometry::of(&header);
     let mut rows = SliceRows::blank(alloc, &geometry, 0)?;
+    let mut scratch = SliceScratch::of(alloc, &header)?;
     let mut slices = Vec::new(alloc);
     'slices: for slice in 0..geometry.slices() {
         fold_slice(&bands, &header, slice, &mut rows)?;
-        let bytes = write_slice(alloc, &header, slice, &rows, share, fill)?;
+        let wanted = WantedSlice {
+            rows: &rows,
+            slice,
+            share,
+            fill,
+        };
+        let bytes = write_slice_in(alloc, &header, &wanted, &mut scratch)?;
         add(&mut slices, bytes)?;
     }
     Ok(slices)

@@ -11,10 +11,10 @@ ghost use Rattle.xs_grammar.specs.Coded.{field_bytes, packet_bytes, packet_fits,
 ghost use Rattle.xs_rate.specs.Choice.{precinct_bytes_at, precinct_fits_at};
 ghost use Rattle.xs_rate.specs.Laws.{AreSmall};
 ghost use Rattle.xs_precinct_write.specs.Outgoing.{HaveModes, HaveRoom, no_line};
-ghost use Rattle.xs_precinct_write.specs.Sent.{AreAlike, HasPrecinct, content_in, modes_in};
+ghost use Rattle.xs_precinct_write.specs.Sent.{AreAlike, AreModesIn, HasPrecinct, content_in, modes_in};
 
 use crate::write::line::OutgoingLine;
-use crate::write::modes::choose_modes;
+use crate::write::modes::{modes_at, set_modes};
 use crate::write::packet::{PacketLines, write_packet};
 use crate::write::slice::{SliceAt, load_lines};
 use std::alloc::Global;
@@ -23,6 +23,7 @@ use xs_geometry::{Geometry, SliceRows};
 use xs_io::{Memory, Octets};
 use xs_layout::Candidate;
 use xs_params::Header;
+use xs_sizes::SliceCounts;
 
 /// Room for a line of each band, in which the precincts of a slice are written one after the other.
 #[derive(Drop)]
@@ -52,10 +53,11 @@ fn push_line(lines: &mut Vec<OutgoingLine>, line: OutgoingLine) -> Result<(), Me
     lines.push(line).map_err(|_| Memory)
 }
 
-/// A precinct, and how many zero bytes of filler follow its packets.
+/// A precinct, the modes of its bands, and how many zero bytes of filler follow its packets.
 #[derive(Clone, Copy)]
 pub struct FilledPrecinct {
     pub precinct: u32,
+    pub modes: [u8; 30],
     pub filler: u32,
 }
 
@@ -85,15 +87,17 @@ pub fn write_precinct(
         rows,
         candidate,
     };
-    let mut scratch = Scratch::of(alloc, geometry)?;
+    let counts = SliceCounts::of(alloc, geometry, rows)?;
     let plain = FilledPrecinct {
         precinct,
+        modes: modes_at(&at, &counts, precinct),
         filler: 0,
     };
+    let mut scratch = Scratch::of(alloc, geometry)?;
     write_filled_precinct(alloc, &at, plain, &mut scratch, out)
 }
 
-/// The same with filler, in room that was made for the slice.
+/// The same with modes that are there, and with filler, in room that was made for the slice.
 pub fn write_filled_precinct(
     alloc: Global,
     at: &SliceAt,
@@ -102,6 +106,7 @@ pub fn write_filled_precinct(
     out: &mut Octets,
 ) -> Result<(), Memory>
     requires precinct { HasPrecinct at.now wanted.precinct }
+    requires modes { AreModesIn at.now wanted.precinct wanted.modes }
     requires room { HaveRoom at.now.header.now scratch.old.lines.items }
     requires fits { precinct_fits at.now.header.now (content_in at.now) (modes_in at.now) (λ _. wanted.filler) wanted.precinct ≡ true }
     ensures written { OnOk result (out.new ≡ out.old ++ precinct_bytes at.now.header.now (content_in at.now) (modes_in at.now) (λ _. wanted.filler) wanted.precinct) }
@@ -121,12 +126,13 @@ fn filled_precinct(
     lines: &mut [OutgoingLine],
 ) -> Result<Octets, Memory>
     requires precinct { HasPrecinct at.now wanted.precinct }
+    requires modes { AreModesIn at.now wanted.precinct wanted.modes }
     requires room { HaveRoom at.now.header.now lines.old }
     requires fits { precinct_fits at.now.header.now (content_in at.now) (modes_in at.now) (λ _. wanted.filler) wanted.precinct ≡ true }
     ensures whole { IfOk result (λ whole. whole ≡ precinct_bytes at.now.header.now (content_in at.now) (modes_in at.now) (λ _. wanted.filler) wanted.precinct) }
     ensures room { HaveRoom at.now.header.now lines.new }
 {
-    choose_modes(at, wanted.precinct, lines);
+    set_modes(at, wanted, lines);
     let body = precinct_body(alloc, at, wanted, lines)?;
     with_head(alloc, at.candidate, lines, &body)
 }

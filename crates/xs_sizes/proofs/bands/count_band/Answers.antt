@@ -23,12 +23,12 @@ lines-init c =
     let first = c.lines-first.result.0 in
     record {
       from = omega arith;
-      size = ap length c.in_ok-scratch.ensures.planes ∙ length-replicate n 0;
-      above_size = ap length c.in_ok-scratch.ensures.above ∙ length-replicate n 0;
-      above_counts = subst (λ l. AreCounts l) (sym c.in_ok-scratch.ensures.above) (All-from_recursion (λ count. count ≤ 15) (replicate n 0) (zeros_few n));
-      none = c.in_ok-scratch.ensures.none;
-      above = λ group inside. ap (λ l. slice_index_or l group 0) c.in_ok-scratch.ensures.above ∙ get_or-replicate n group 0 0 inside ∙ sym (first_zero first (planes_of (rows_held c.args.counting.now.rows.now c.args.band (first - 1)) group));
-      cuts = band_start c.args.counting.now.geometry.now (rows_held c.args.counting.now.rows.now) c.args.counting.now.signs c.args.band first c.new-cuts.result.items c.new-cuts.ensures.items;
+      size = ap length c.in_ok-reset.ensures.planes ∙ length-replicate n 0;
+      above_size = ap length c.in_ok-reset.ensures.above ∙ length-replicate n 0;
+      above_counts = subst (λ l. AreCounts l) (sym c.in_ok-reset.ensures.above) (All-from_recursion (λ count. count ≤ 15) (replicate n 0) (zeros_few n));
+      none = c.in_ok-reset.ensures.none;
+      above = λ group inside. ap (λ l. slice_index_or l group 0) c.in_ok-reset.ensures.above ∙ get_or-replicate n group 0 0 inside ∙ sym (first_zero first (planes_of (rows_held c.args.counting.now.rows.now c.args.band (first - 1)) group));
+      cuts = band_start c.args.counting.now.geometry.now (rows_held c.args.counting.now.rows.now) c.args.counting.now.signs c.args.band first c.args.room.items c.requires.empty;
     }
 
 pub lines-preserved : goal.lines-preserved

@@ -1,4 +1,4 @@
-use Rattle.std.proofs.Common.{◌≡◌, ◌+◌, ◌<◌, ◌≤◌, slice_index_or, ap, ◌∙◌, arith}
+use Rattle.std.proofs.Common.{◌+◌, slice_index_or, ap, ◌∙◌, arith}
 use Rattle.xs_sizes.proofs.signs.add_signs.Goals as goal
 
 pub returns : goal.returns

@@ -9,7 +9,7 @@ use Rattle.xs_slice_write.proofs.write.write_precincts.Given as goal
 
 abbrev pub invariant-precincts : goal.invariant-precincts
 invariant-precincts l = record {
-  whole : slice_head l.slice ++ flat_map (precinct_bytes l.at.header.now (content_in l.at) (modes_in l.at) (last_filler l.at.header.now l.slice l.filler)) (range_with_len l.first (l.end - l.first))
-      ≡ l.out ++ flat_map (precinct_bytes l.at.header.now (content_in l.at) (modes_in l.at) (last_filler l.at.header.now l.slice l.filler)) (range_with_len l.precinct (l.end - l.precinct));
-  room : HaveRoom l.at.header.now l.scratch.lines.items;
+  whole : slice_head l.planned.slice ++ flat_map (precinct_bytes l.planned.at.header.now (content_in l.planned.at) (modes_in l.planned.at) (last_filler l.planned.at.header.now l.planned.slice l.planned.filler)) (range_with_len l.first (l.end - l.first))
+      ≡ l.out ++ flat_map (precinct_bytes l.planned.at.header.now (content_in l.planned.at) (modes_in l.planned.at) (last_filler l.planned.at.header.now l.planned.slice l.planned.filler)) (range_with_len l.precinct (l.end - l.precinct));
+  room : HaveRoom l.planned.at.header.now l.scratch.lines.items;
 }

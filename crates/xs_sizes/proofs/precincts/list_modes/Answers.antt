@@ -2,7 +2,7 @@ use Rattle.std.proofs.Common.{ℕ, ◌+◌, List, sym, ap, subst, ◌∙◌}
 use Rattle.xs_geometry.specs.SliceLines.{rows_held}
 use Rattle.xs_sizes.specs.Precincts.{AreModes}
 use Rattle.xs_sizes.proofs.Sets.{pushed_more}
-use Rattle.xs_sizes.proofs.precincts.modes_of.Goals as goal
+use Rattle.xs_sizes.proofs.precincts.list_modes.Goals as goal
 
 pub bands-preserved : goal.bands-preserved
 bands-preserved c =

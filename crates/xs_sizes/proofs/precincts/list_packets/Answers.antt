@@ -5,7 +5,7 @@ use Rattle.xs_geometry.specs.Places.{packet_at}
 use Rattle.xs_sizes.specs.declared.precincts.PacketBands.{PacketBands}
 use Rattle.xs_sizes.specs.Precincts.{IsPacketAt}
 use Rattle.xs_sizes.proofs.Sets.{pushed_more}
-use Rattle.xs_sizes.proofs.precincts.packets_in.Goals as goal
+use Rattle.xs_sizes.proofs.precincts.list_packets.Goals as goal
 
 pub packets-preserved : goal.packets-preserved
 packets-preserved c =

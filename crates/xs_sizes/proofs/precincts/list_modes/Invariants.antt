@@ -1,7 +1,7 @@
 use Rattle.std.proofs.Common.{◌≡◌, ℕ, ◌<◌, List, length, slice_index_or}
 use Rattle.xs_geometry.specs.SliceLines.{rows_held}
 use Rattle.xs_sizes.specs.Precincts.{AreModes}
-use Rattle.xs_sizes.proofs.precincts.modes_of.Given as goal
+use Rattle.xs_sizes.proofs.precincts.list_modes.Given as goal
 
 abbrev pub invariant-bands : goal.invariant-bands
 invariant-bands l = record {

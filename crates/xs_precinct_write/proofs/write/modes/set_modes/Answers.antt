@@ -5,7 +5,7 @@ use Rattle.xs_params.specs.Geometry.{band_width_of, bands_of}
 use Rattle.xs_precinct_write.specs.Outgoing.{Outgoing, no_line}
 use Rattle.xs_precinct_write.specs.Sent.{modes_in}
 use Rattle.xs_precinct_write.proofs.Alikes.{set_each}
-use Rattle.xs_precinct_write.proofs.write.modes.choose_modes.Goals as goal
+use Rattle.xs_precinct_write.proofs.write.modes.set_modes.Goals as goal
 
 pub bands-preserved : goal.bands-preserved
 bands-preserved c =
@@ -13,7 +13,7 @@ bands-preserved c =
     let h = s.header.now in
     let lines = c.bands.lines in
     let k = c.bands.band in
-    let new = c.choose_mode.new.line in
+    let new = c.set_mode.new.line in
     let all = c.bands-band-end.ensures.count ∙ ap bands_of c.requires.precinct.is_slice.geometry in
     let there : k < bands_of h = omega (arith, c.bands-test.true, all) in
     let inside : k < length lines = omega (arith, there, c.bands.invariant.room.count) in
@@ -22,11 +22,11 @@ bands-preserved c =
       room = record {
         count = length-set lines k new ∙ c.bands.invariant.room.count;
         groups = λ band within.
-            set_each (λ b x. b < bands_of h → length x.counts ≡ groups_of (band_width_of h b)) lines k new inside (λ below. c.choose_mode.ensures.room ∙ same ∙ c.bands.invariant.room.groups k there) band
+            set_each (λ b x. b < bands_of h → length x.counts ≡ groups_of (band_width_of h b)) lines k new inside (λ below. c.set_mode.ensures.room ∙ same ∙ c.bands.invariant.room.groups k there) band
             (λ other below. c.bands.invariant.room.groups band below) within;
       };
       modes = λ band less.
-          set_each (λ b x. b < k + 1 → x.mode ≡ modes_in s c.args.precinct b) lines k new inside (λ below. c.choose_mode.ensures.mode) band
+          set_each (λ b x. b < k + 1 → x.mode ≡ modes_in s c.args.wanted.precinct b) lines k new inside (λ below. c.set_mode.ensures.mode) band
           (λ other below. c.bands.invariant.modes band (omega (arith, other, below))) less;
     }
 

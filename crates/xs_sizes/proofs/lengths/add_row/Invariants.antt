@@ -1,8 +1,0 @@
-use Rattle.std.proofs.Common.{◌≡◌, ℕ, ◌+◌, ◌<◌, ◌≤◌, slice_index_or}
-use Rattle.xs_sizes.proofs.lengths.add_row.Given as goal
-
-abbrev pub invariant-cuts : goal.invariant-cuts
-invariant-cuts l = record {
-  done : (j : ℕ) → j < l.t → slice_index_or l.bits j 0 ≡ slice_index_or l.initial.bits j 0 + slice_index_or l.row j 0;
-  rest : (j : ℕ) → l.t ≤ j → slice_index_or l.bits j 0 ≡ slice_index_or l.initial.bits j 0;
-}
