@@ -4,7 +4,7 @@ use std::alloc::Global;
 use std::default::MadeWith;
 use std::test::Fail;
 use std::thread;
-use xs_capture::{Packet, Parts, SortFault, Sorted, read_frame, sort_pictures, write_frame};
+use xs_capture::{Packet, Parts, SortFault, Sorted, offer, read_frame, sort_pictures, write_frame};
 use xs_io::{Memory, Octets};
 
 // A packet with padding, extension, a source and marker, of the picture 1500, which closes slice 0 at place 511.
@@ -117,6 +117,21 @@ fn frames_are_offers_or_stepped_over(rt: HostRuntime) -> Result<(), Fail> {
         first_of(rt.alloc(), capture.as_slice(), 1) == Some((1, 1, 511, 2)),
         "padding is no payload"
     );
+    Ok(())
+}
+
+// The unit, place and bytes of the offer that a packet is.
+fn offer_of(alloc: Global, packet: &[u8]) -> Result<Option<(u32, u32, usize)>, Memory> {
+    let Some(packet) = offer(alloc, packet)? else {
+        return Ok(None);
+    };
+    Ok(Some((packet.unit, packet.place, packet.bytes.len())))
+}
+
+#[test]
+fn a_packet_is_an_offer_or_none(rt: HostRuntime) -> Result<(), Fail> {
+    assert!(rt; offer_of(rt.alloc(), &FULL)? == Some((1, 511, 2)));
+    assert!(rt; offer_of(rt.alloc(), &OTHER)?.is_none());
     Ok(())
 }
 

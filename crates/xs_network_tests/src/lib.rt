@@ -7,3 +7,5 @@ mod captures;
 mod headers;
 #[cfg(test)]
 mod packets;
+#[cfg(test)]
+mod pcap_files;

@@ -1,5 +1,5 @@
 -- The line of a note: 'Notes'.
-use Rattle.std.specs.Prelude.{ℕ, ◌/◌, ◌%◌, ◌≢◌, ⊤, List, [], ◌∷◌, ◌++◌, codes, decimal, flat_map}
+use Rattle.std.specs.Prelude.{ℕ, ◌/◌, ◌%◌, ◌^◌, ◌≢◌, ⊤, List, [], ◌∷◌, ◌++◌, codes, decimal, flat_map}
 use Rattle.std.specs.Char.{digit_char}
 use Rattle.xs_params.specs.declared.settings.Field.{Field}
 use Rattle.xs_params.specs.declared.settings.Field.TheVariants as setting
@@ -112,6 +112,8 @@ note_text (note.InputCut place) = codes "input cut " ++ decimal place
 note_text (note.InputSample place) = codes "input sample " ++ decimal place
 note_text (note.InputLimit limit) = codes "input limit " ++ decimal limit
 note_text (note.InputPictures count) = codes "input pictures " ++ decimal count
+note_text (note.InputMagic value) = codes "input magic " ++ hex (value / 2 ^ 16) ++ hex (value % 2 ^ 16)
+note_text (note.InputLink value) = codes "input link " ++ decimal value
 note_text (note.Budget picture slice size share) =
     codes "budget picture " ++ decimal picture ++ codes " slice " ++ decimal slice ++ codes " size " ++ decimal size ++ codes " share " ++ decimal share
 note_text (note.MissingHeader picture) = codes "missing picture " ++ decimal picture ++ codes " header"
@@ -141,6 +143,8 @@ NamesFault (note.InputCut place) = ⊤
 NamesFault (note.InputSample place) = ⊤
 NamesFault (note.InputLimit limit) = ⊤
 NamesFault (note.InputPictures count) = ⊤
+NamesFault (note.InputMagic value) = ⊤
+NamesFault (note.InputLink value) = ⊤
 NamesFault (note.Budget picture slice size share) = ⊤
 NamesFault (note.MissingHeader picture) = ⊤
 NamesFault (note.MissingSlice picture slice) = ⊤

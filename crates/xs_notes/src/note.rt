@@ -28,6 +28,14 @@ pub enum Note {
     InputPictures {
         count: u32,
     },
+    /// A pcap file begins with another magic; its first four bytes as a big-endian number.
+    InputMagic {
+        value: u32,
+    },
+    /// The frames of a pcap file are not Ethernet's; the whole field of the link type.
+    InputLink {
+        value: u32,
+    },
     /// A slice is over its share with the coarsest candidate; its bytes then.
     Budget {
         picture: u32,

@@ -3,7 +3,7 @@ ghost use Rattle.std.specs.Prelude.{◌≡◌, IfOk, Some};
 ghost use Rattle.xs_notes.specs.Lines.{note_line, note_text, NamesFault};
 
 use crate::note::Note;
-use crate::texts::{HeadText, SliceText, setting_name};
+use crate::texts::{Code, HeadText, SliceText, halves_of, setting_name};
 use std::alloc::Global;
 use std::fmt;
 use xs_io::{Memory, Octets};
@@ -33,6 +33,11 @@ impl fmt::Display for Note {
             Note::InputSample { place } => write!(f, "input sample {place}"),
             Note::InputLimit { limit } => write!(f, "input limit {limit}"),
             Note::InputPictures { count } => write!(f, "input pictures {count}"),
+            Note::InputMagic { value } => {
+                let (high, low) = halves_of(value);
+                write!(f, "input magic {}{}", Code(high), Code(low))
+            }
+            Note::InputLink { value } => write!(f, "input link {value}"),
             Note::Budget {
                 picture,
                 slice,

@@ -93,6 +93,11 @@ fn lines(rt: HostRuntime) -> Result<(), Fail> {
         ),
         (Note::InputPictures { count: 257 }, "input pictures 257\n"),
         (
+            Note::InputMagic { value: 0x000a_b20d },
+            "input magic 000ab20d\n",
+        ),
+        (Note::InputLink { value: 113 }, "input link 113\n"),
+        (
             Note::Budget {
                 picture: 0,
                 slice: 0,

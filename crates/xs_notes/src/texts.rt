@@ -1,5 +1,5 @@
 // The texts of names and faults inside a note.
-ghost use Rattle.std.specs.Prelude.{◌≡◌, Some};
+ghost use Rattle.std.specs.Prelude.{◌≡◌, ◌/◌, ◌%◌, ◌^◌, Some};
 ghost use Rattle.xs_notes.specs.Lines.{hex, setting_name, field_name, part_name, head_text, precinct_text, slice_text};
 
 use std::fmt;
@@ -17,6 +17,14 @@ impl fmt::Display for Code {
         let [high, low] = self.0.to_be_bytes();
         write!(f, "{high:02x}{low:02x}")
     }
+}
+
+/// The upper and the lower half of a number.
+pub fn halves_of(number: u32) -> (u16, u16)
+    ensures high { result.0 ≡ number / 2 ^ 16 }
+    ensures low { result.1 ≡ number % 2 ^ 16 }
+{
+    ((number / 0x1_0000) as u16, (number % 0x1_0000) as u16)
 }
 
 /// The name of a setting.

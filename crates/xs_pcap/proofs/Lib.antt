@@ -1,0 +1,12 @@
+pub mod Parts
+pub mod Records
+pub mod Files
+pub mod Udp
+pub mod Ipv4
+pub mod Ethernet
+pub mod Datagrams
+pub mod Checksums
+pub mod Walks
+pub mod Again
+pub mod OneCapture
+pub mod Writing
