@@ -1,0 +1,5 @@
+pub mod Found
+pub mod Selected
+pub mod WholeUnits
+pub mod Copies
+pub mod Missing
