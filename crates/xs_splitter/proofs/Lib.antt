@@ -1,0 +1,6 @@
+pub mod Lifted
+pub mod Bands
+pub mod Chains
+pub mod Built
+pub mod Finishing
+pub mod Shown
