@@ -1,0 +1,4 @@
+mod Rows
+mod Drawing
+pub mod Mixing
+mod Comparing
