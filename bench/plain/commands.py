@@ -11,7 +11,10 @@ ENCODE = {
     "pt": (NUMBER, 96), "ssrc": (NUMBER, 1), "time": (NUMBER, 0), "step": (NUMBER, 1500), "form": (("rtp", "xs"), "rtp"), "workers": (NUMBER, 4),
 }
 DECODE = {"form": (("rtp", "xs"), "rtp"), "workers": (NUMBER, 4), "feeders": (NUMBER, 2)}
-TABLES = {"encode": ENCODE, "decode": DECODE}
+TRIAL = {
+    "seed": (NUMBER, 1), "width": (NUMBER, 256), "height": (NUMBER, 128), "share": (NUMBER, 4000), "workers": (NUMBER, 4), "feeders": (NUMBER, 2),
+}
+TABLES = {"encode": ENCODE, "decode": DECODE, "trial": TRIAL}
 
 
 class BadWord(Exception):
@@ -55,16 +58,17 @@ def command_of(words):
 
 
 def settings_of(command, values):
-    s = SimpleNamespace(**values)
-    if command == "encode":
+    defaults = {name: default for name, (_, default) in ENCODE.items()} if command == "trial" else {}
+    s = SimpleNamespace(**{**defaults, **values})
+    if command != "decode":
         s.sampling = SAMPLING[s.format]
-        s.weights, s.boxes, s.feeders = None, b"", 2
+        s.weights, s.boxes, s.feeders = None, b"", values.get("feeders", 2)
     return s
 
 
 def check(command, s):
     """The first setting that is out of range is refused."""
-    for name, value, accepted in (picture_rules(s) if command == "encode" else []) + thread_rules(s):
+    for name, value, accepted in (picture_rules(s) if command != "decode" else []) + thread_rules(s):
         if not accepted():
             raise BadSetting(name, value)
 

@@ -1,5 +1,5 @@
 """'Runs' and 'Notes': what a run of given words on given bytes ends with, writes and says."""
-from . import commands, network
+from . import commands, network, trial
 from .faults import Fault
 from .picture import decoded, encode, read_codestream
 from .rate import Budget
@@ -17,6 +17,8 @@ def run(words, data):
         commands.check(command, settings)
         if command == "encode":
             status = encode_pictures(settings, data, out, notes)
+        elif command == "trial":
+            status = try_seed(settings, out, notes)
         else:
             status = (decode_codestreams if settings.form == "xs" else decode_capture)(data, out, notes)
     except commands.BadWord as bad:
@@ -55,6 +57,15 @@ def encode_pictures(settings, data, out, notes):
             out.append(network.capture_of(packets))
             sequence += len(packets)
         p += size
+
+
+def try_seed(settings, out, notes):
+    try:
+        lines = trial.lines_of(settings, settings.seed)
+    except Budget as budget:
+        return told(notes, 4, f"budget picture 0 slice {budget.slice} size {budget.size} share {settings.share}")
+    out.append("".join(line + "\n" for line in lines).encode())
+    return 0
 
 
 def decode_codestreams(data, out, notes):

@@ -1,6 +1,8 @@
 -- What a command leaves, as a run sees it.
 use Rattle.std.proofs.Common.{◌≡◌, ℕ, ◌+◌, ◌<◌, ◌≤◌, ◌++◌, List, [], ◌∷◌, length, Option, Some, None, Result, Ok, Err, refl, sym, subst, arith, inl, inr, ◌⊎◌}
-use Rattle.std.specs.Prelude.{Bool, true, false, nat_lt, unwrap_or, MatchBool, IsSome}
+use Rattle.std.specs.Prelude.{Bool, true, false, nat_lt, unwrap_or, MatchBool, IsSome, ⊤, codes, bytes_eq, if◌then◌else◌}
+use Rattle.std.specs.Option.{option_map}
+use Rattle.xs_lists.specs.First.{first_of, first_some}
 use Rattle.std.specs.Io.KnownBytes.{Consumes, IsAtEnd}
 use Rattle.std.proofs.KnownBytes.{Appends-nil, Consumes-nil, Keeps-refl}
 use Rattle.std.proofs.lemmas.Bool.{cases_lt}
@@ -13,9 +15,9 @@ use Rattle.xs_capture.specs.Pictures.{most_pictures}
 use Rattle.xs_notes.specs.declared.note.Note.TheVariants as note
 use Rattle.xs_endings.specs.declared.stop.Stop.{Stop}
 use Rattle.xs_endings.specs.declared.stop.Stop.TheVariants as stop
-use Rattle.xs_endings.specs.Ends.{Change, Ends, change_of, ends_of, untouched}
+use Rattle.xs_endings.specs.Ends.{Change, Ends, IsLater, change_of, ends_of, untouched}
 use Rattle.xs_endings.specs.Endings.{HasFronts}
-use Rattle.xs_endings.specs.Said.{Said, refused}
+use Rattle.xs_endings.specs.Said.{Said, only_note}
 use Rattle.xs_endings.specs.Steps.{IsHalt}
 use Rattle.xs_endings.specs.Turns.{HasSaidAll, nothing}
 use Rattle.xs_endings.proofs.Changes.{front_of_none}
@@ -23,19 +25,26 @@ use Rattle.xs_endings.proofs.Pictures.{rest_from}
 use Rattle.xs_endings.proofs.Turns.{said_on}
 use Rattle.xs_words.specs.declared.command.Form.{Form}
 use Rattle.xs_words.specs.declared.command.Form.TheVariants.{Rtp, Xs}
+use Rattle.xs_params.specs.declared.settings.Setting.{Setting}
+use Rattle.xs_params.proofs.InRange.{in_range}
 use Rattle.xs_words.specs.declared.command.Refusal.{Refusal}
+use Rattle.xs_words.specs.declared.command.Refusal.TheVariants as refusal
 use Rattle.xs_words.specs.declared.command.Command.{Command}
-use Rattle.xs_words.specs.declared.command.Command.TheVariants.{Encode, Decode}
-use Rattle.xs_words.specs.Refusal.{refusal_of}
-use Rattle.xs_words.specs.Command.{command_of}
+use Rattle.xs_words.specs.declared.command.Command.TheVariants.{Encode, Decode, Trial}
+use Rattle.xs_words.specs.Refusal.{refusal_of, refused_settings}
+use Rattle.xs_words.specs.Words.{bad_place, word_in}
+use Rattle.xs_words.specs.Command.{command_of, form_of, given_number, settings_of, trial_settings_of}
 use Rattle.xs_cli.specs.Answer.{IsAnswer, IsAnswerUnless, IsCommandAnswer, IsCommandStanding, IsStanding, refusal_note}
 use Rattle.xs_cli.specs.Decoded.{IsDecodeTurn, IsDecoded, IsFormAnswer, input_limit}
-use Rattle.xs_cli.specs.Steps.{AreDecoded, IsCommandStop, IsDone, IsExecuted, IsOwnStop}
+use Rattle.xs_cli.specs.Steps.{AreStreamsDecoded, IsCommandStop, IsDone, IsExecuted, IsOwnStop}
 use Rattle.xs_cli.proofs.Inputs.{front_of, no_bytes, over, used_up, was_some, was_whole}
 use Rattle.xs_cli.specs.Encoded.{IsEncodeTurn, encode_turn}
 use Rattle.xs_cli.specs.Laws.{AnswersExist}
 use Rattle.xs_cli.proofs.Turns.{encode_goes}
+use Rattle.xs_cli.specs.Receiving.{AreReceived, NeverStands}
 use Rattle.xs_cli.proofs.Streams.{decode_goes}
+use Rattle.xs_cli.proofs.CapturedHalts.{captured_exists}
+use Rattle.xs_cli.proofs.TrialAnswers.{trials_answered}
 
 -- The same halt by other words for its answers
 
@@ -67,16 +76,12 @@ module _ (Answer Other : Said → Type 0) (Stands Others : List ℕ → List ℕ
 within_limit : (form : Form) (input : List ℕ) (said : Said) → length input ≤ input_limit → IsFormAnswer form input said → IsDecoded form input said
 within_limit form input said within answer =
     let test : nat_lt input_limit (length input) ≡ false = grind (arith, nat_tests) in
-    subst (λ (b : Bool). MatchBool b (said ≡ refused (note.InputLimit input_limit)) (IsFormAnswer form input said)) (sym test) answer
+    subst (λ (b : Bool). MatchBool b (said ≡ only_note (note.InputLimit input_limit)) (IsFormAnswer form input said)) (sym test) answer
 
-past_limit : (form : Form) (input : List ℕ) → input_limit < length input → IsDecoded form input (refused (note.InputLimit input_limit))
+past_limit : (form : Form) (input : List ℕ) → input_limit < length input → IsDecoded form input (only_note (note.InputLimit input_limit))
 past_limit form input past =
     let test : nat_lt input_limit (length input) ≡ true = grind (arith, nat_tests) in
-    subst (λ (b : Bool). MatchBool b (refused (note.InputLimit input_limit) ≡ refused (note.InputLimit input_limit)) (IsFormAnswer form input (refused (note.InputLimit input_limit)))) (sym test) refl
-
-form_answer : (form : Form) (input : List ℕ) (said : Said) → HasSaidAll IsDecodeTurn input said → IsFormAnswer form input said
-form_answer Xs input said all = all
-form_answer Rtp input said all = tt
+    subst (λ (b : Bool). MatchBool b (only_note (note.InputLimit input_limit) ≡ only_note (note.InputLimit input_limit)) (IsFormAnswer form input (only_note (note.InputLimit input_limit)))) (sym test) refl
 
 as_bytes : (input : List ℕ) → AreByteItems input → AreBytes input
 as_bytes input are = recursion_from_All (λ (item : ℕ). item < 256) input are
@@ -88,11 +93,15 @@ all_said input are =
     let rest = rest_from IsDecodeTurn AreBytes most_pictures decode_goes most_pictures nothing input are enough turn.0 turn.1 in
     (_, said_on IsDecodeTurn nothing rest.end input input rest.last [] rest.more rest.notes (refl, refl) rest.written rest.ended)
 
+form_answer : (form : Form) (input : List ℕ) → AreBytes input → (said : Said) × IsFormAnswer form input said
+form_answer Xs input are = all_said input are
+form_answer Rtp input are = captured_exists input are
+
 -- each input of bytes has an answer
 pub decode_answer : (form : Form) (input : List ℕ) → AreByteItems input → (said : Said) × IsDecoded form input said
 decode_answer form input are = elim (cases_lt input_limit (length input)) [
-  | inl past ↦ (refused (note.InputLimit input_limit), past_limit form input past)
-  | inr within ↦ let all = all_said input (as_bytes input are) in (all.0, within_limit form input all.0 within (form_answer form input all.0 all.1))
+  | inl past ↦ (only_note (note.InputLimit input_limit), past_limit form input past)
+  | inr within ↦ let found = form_answer form input (as_bytes input are) in (found.0, within_limit form input found.0 within found.1)
 ]
 
 decided_bytes : (input : List ℕ) → AreByteItems input ⊎ ¬ AreByteItems input
@@ -117,21 +126,40 @@ nothing_said Answer input answer source p u held faults = elim (decided_bytes in
   | inr not ↦ record { said = record { out = []; notes = [] }; answer = λ are. absurd (not are); output = front_of_none p u u []; notes = front_of_none held faults faults [] }
 ]
 
-module _ (form : Form) (workers feeders : ℕ) (a c p : Option (List ℕ)) (f h u : ℕ) (held : Option (List ℕ)) (faults : ℕ) where
-  -- the whole input was read
-  pub read_whole : (bytes : List ℕ) (r : Option (List ℕ)) (w : ℕ) (result : Result ℕ Stop) → length bytes ≤ input_limit → AreByteItems bytes → Consumes a c bytes → IsAtEnd c → IsCommandStop result
-      → AreDecoded bytes (change_of p r u w) result → IsDone (Decode form workers feeders) (ends_of (change_of a c f h) (change_of p r u w) (untouched held faults)) result
-  read_whole bytes r w result within are consumed end stops decoded = record {
-    input = bytes;
-    left = was_whole a c bytes are consumed end;
-    halt = halt_as (HasSaidAll IsDecodeTurn bytes) (IsDecoded form bytes) (IsCommandStanding (Decode form workers feeders)) (IsCommandStanding (Decode form workers feeders)) bytes (ends_of (change_of a c f h) (change_of p r u w) (untouched held faults))
-        (λ said all. within_limit form bytes said within (form_answer form bytes said all)) (λ taken out stands. stands) result (decoded (Decode form workers feeders) (change_of a c f h) held faults);
-    stop = stops;
-    whole = λ _. used_up a c f h bytes consumed end;
-    most = (bytes, omega (arith, within), consumed);
-    later = omega arith;
-  }
+-- the whole input was read, and this was done with it
+read_whole : (form : Form) (workers feeders : ℕ) (a c : Option (List ℕ)) (f h : ℕ) (bytes : List ℕ) (output notes : Change) (result : Result ℕ Stop) (Stands : List ℕ → List ℕ → Type 0)
+    → ((taken out : List ℕ) → Stands taken out → IsCommandStanding (Decode form workers feeders) taken out) → length bytes ≤ input_limit → AreByteItems bytes → Consumes a c bytes → IsAtEnd c
+    → IsCommandStop result → IsLater notes → IsHalt (IsFormAnswer form bytes) Stands bytes (ends_of (change_of a c f h) output notes) result
+    → IsDone (Decode form workers feeders) (ends_of (change_of a c f h) output notes) result
+read_whole form workers feeders a c f h bytes output notes result Stands standing within are consumed end stops later halt = record {
+  input = bytes;
+  left = was_whole a c bytes are consumed end;
+  halt = halt_as (IsFormAnswer form bytes) (IsDecoded form bytes) Stands (IsCommandStanding (Decode form workers feeders)) bytes (ends_of (change_of a c f h) output notes)
+      (λ said answer. within_limit form bytes said within answer) standing result halt;
+  stop = stops;
+  whole = λ _. used_up a c f h bytes consumed end;
+  most = (bytes, omega (arith, within), consumed);
+  untaken = λ never. absurd never;
+  later = later;
+}
 
+-- the whole input was read, and its codestreams were decoded
+pub streams_done : (workers feeders : ℕ) (a c : Option (List ℕ)) (f h : ℕ) (held : Option (List ℕ)) (faults : ℕ) (bytes : List ℕ) (output : Change) (result : Result ℕ Stop) → length bytes ≤ input_limit
+    → AreByteItems bytes → Consumes a c bytes → IsAtEnd c → IsCommandStop result → AreStreamsDecoded bytes output result
+    → IsDone (Decode Xs workers feeders) (ends_of (change_of a c f h) output (untouched held faults)) result
+streams_done workers feeders a c f h held faults bytes output result within are consumed end stops decoded =
+    let command = Decode Xs workers feeders in
+    read_whole Xs workers feeders a c f h bytes output (untouched held faults) result (IsCommandStanding command) (λ taken out stands. stands) within are consumed end stops (omega arith)
+    (decoded command (change_of a c f h) held faults)
+
+-- the whole input was read, and was received as a capture
+pub capture_done : (workers feeders : ℕ) (a c : Option (List ℕ)) (f h : ℕ) (bytes : List ℕ) (output notes : Change) (result : Result ℕ Stop) → length bytes ≤ input_limit → AreByteItems bytes
+    → Consumes a c bytes → IsAtEnd c → IsCommandStop result → IsLater notes → AreReceived bytes output notes result
+    → IsDone (Decode Rtp workers feeders) (ends_of (change_of a c f h) output notes) result
+capture_done workers feeders a c f h bytes output notes result within are consumed end stops later received =
+    read_whole Rtp workers feeders a c f h bytes output notes result NeverStands (λ taken out never. absurd never) within are consumed end stops later (received (change_of a c f h))
+
+module _ (form : Form) (workers feeders : ℕ) (a c p : Option (List ℕ)) (f h u : ℕ) (held : Option (List ℕ)) (faults : ℕ) where
   pub over_limit : (front : List ℕ) → length front ≡ input_limit + 1 → Consumes a c front
       → IsDone (Decode form workers feeders) (ends_of (change_of a c f h) (untouched p u) (untouched held faults)) (Err (stop.Told (note.InputLimit input_limit)))
   over_limit front size consumed =
@@ -140,7 +168,7 @@ module _ (form : Form) (workers feeders : ℕ) (a c p : Option (List ℕ)) (f h 
         input = found.0;
         left = found.1;
         halt = record {
-          said = refused (note.InputLimit input_limit);
+          said = only_note (note.InputLimit input_limit);
           answer = past_limit form found.0 found.2;
           note = refl;
           output = Appends-nil p;
@@ -149,6 +177,7 @@ module _ (form : Form) (workers feeders : ℕ) (a c p : Option (List ℕ)) (f h 
         stop = ((omega arith, omega arith), tt);
         whole = λ e. absurd (cc);
         most = (front, omega (arith, size), consumed);
+        untaken = λ never. absurd never;
         later = omega arith;
       }
 
@@ -174,6 +203,7 @@ module _ (form : Form) (workers feeders : ℕ) (a c p : Option (List ℕ)) (f h 
         stop = tt;
         whole = λ e. absurd (cc);
         most = (front, omega (arith, short), consumed);
+        untaken = λ never. absurd never;
         later = omega arith;
       }
 
@@ -186,6 +216,7 @@ module _ (form : Form) (workers feeders : ℕ) (a c p : Option (List ℕ)) (f h 
     stop = tt;
     whole = λ e. absurd (cc);
     most = (front, omega (arith, short), consumed);
+    untaken = λ never. absurd never;
     later = omega arith;
   }
 
@@ -206,7 +237,7 @@ executed words command ends result e same other =
       stop = subst (λ (o : Option Refusal). IsOwnStop o result) (sym e) done.stop;
       whole = done.whole;
       most = done.most;
-      kept = λ some. absurd (none_some (subst (λ (o : Option Refusal). IsSome o) e some));
+      kept = λ unread. elim unread [ inl some ↦ absurd (none_some (subst (λ (o : Option Refusal). IsSome o) e some)) | inr trial ↦ done.untaken trial ];
       later = done.later;
     }
 
@@ -216,8 +247,8 @@ refused_words words why a p f u held faults e = record {
   input = unwrap_or a [];
   left = was_some a;
   halt = record {
-    said = refused (refusal_note why);
-    answer = subst (λ (o : Option Refusal). IsAnswerUnless o (command_of words) (unwrap_or a []) (refused (refusal_note why))) (sym e) refl;
+    said = only_note (refusal_note why);
+    answer = subst (λ (o : Option Refusal). IsAnswerUnless o (command_of words) (unwrap_or a []) (only_note (refusal_note why))) (sym e) refl;
     note = refl;
     output = Appends-nil p;
     notes = Keeps-refl held;
@@ -225,21 +256,50 @@ refused_words words why a p f u held faults e = record {
   stop = subst (λ (o : Option Refusal). IsOwnStop o (Err (stop.Told (refusal_note why)))) (sym e) refl;
   whole = λ x. absurd (cc);
   most = ([], omega arith, Consumes-nil a);
-  kept = λ _. Keeps-refl a;
+  kept = λ _. record { bytes = refl; faults = refl };
   later = omega arith;
 }
 
 -- each input of bytes has an answer
-command_answer : (command : Command) (input : List ℕ) → AreByteItems input → (said : Said) × IsCommandAnswer command input said
-command_answer (Decode form workers feeders) input are = decode_answer form input are
-command_answer (Encode settings form) input are =
+
+-- settings that no words refuse are in range, but for what boxes are; those of a trial have none
+abbrev AreSound : Command → Type 0
+AreSound (Encode settings form) = ⊤
+AreSound (Decode form workers feeders) = ⊤
+AreSound (Trial settings seed) = settings.boxes ≡ []
+
+abbrev command_by : List (List ℕ) → (encode decode : Bool) → Command
+command_by words encode decode =
+    if encode then Encode (settings_of words) (form_of words)
+    else if decode then Decode (form_of words) (given_number words (codes "--workers")) (given_number words (codes "--feeders"))
+    else Trial (trial_settings_of words) (given_number words (codes "--seed"))
+
+sound : (words : List (List ℕ)) → AreSound (command_of words)
+sound words = go (bytes_eq (word_in words 0) (codes "encode")) (bytes_eq (word_in words 0) (codes "decode"))
+  where
+    go : (encode decode : Bool) → AreSound (command_by words encode decode)
+    go true decode = tt
+    go false true = tt
+    go false false = refl
+
+unrefused : (o : Option ℕ) (p : Option Setting) → first_some (option_map refusal.Words o ∷ option_map refusal.Setting p ∷ []) ≡ None → p ≡ None
+unrefused None None e = refl
+unrefused None (Some setting) e = absurd (cc)
+unrefused (Some place) None e = absurd (cc)
+unrefused (Some place) (Some setting) e = absurd (cc)
+
+command_answer : (command : Command) (input : List ℕ) → AreByteItems input → AreSound command → first_of (refused_settings command) ≡ None → (said : Said) × IsCommandAnswer command input said
+command_answer (Decode form workers feeders) input are known none = decode_answer form input are
+command_answer (Encode settings form) input are known none =
     let enough : most_pictures ≤ nothing.pictures + most_pictures = omega arith in
     let rest = rest_from (IsEncodeTurn settings form) (λ _. Unit {0}) most_pictures (encode_goes settings form) most_pictures nothing input tt enough (encode_turn settings form nothing input) refl in
     (_, said_on (IsEncodeTurn settings form) nothing rest.end input input rest.last [] rest.more rest.notes (refl, refl) rest.written rest.ended)
+command_answer (Trial settings seed) input are known none =
+    trials_answered settings seed (in_range settings (subst AreBytes (sym known) tt) (record { none = none }))
 
 pub has_answer : AnswersExist
-has_answer words input are = go (refusal_of words)
+has_answer words input are = go (refusal_of words) refl
   where
-    go : (o : Option Refusal) → (said : Said) × IsAnswerUnless o (command_of words) input said
-    go None = command_answer (command_of words) input are
-    go (Some why) = (refused (refusal_note why), refl)
+    go : (o : Option Refusal) → refusal_of words ≡ o → (said : Said) × IsAnswerUnless o (command_of words) input said
+    go None e = command_answer (command_of words) input are (sound words) (unrefused (bad_place words) (first_of (refused_settings (command_of words))) e)
+    go (Some why) e = (only_note (refusal_note why), refl)

@@ -1,5 +1,5 @@
 -- Each codestream has a picture.
-use Rattle.std.proofs.Common.{◌≡◌, ℕ, zero, suc, ◌+◌, ◌-◌, ◌^◌, ◌<◌, ◌≤◌, List, [], ◌∷◌, length, get_or, refl, sym, ap, subst, ◌∙◌, arith}
+use Rattle.std.proofs.Common.{◌≡◌, ℕ, ◌+◌, ◌-◌, ◌^◌, ◌<◌, ◌≤◌, List, length, get_or, refl, sym, ap, subst, ◌∙◌, arith}
 use Rattle.std.specs.Prelude.{ℤ, pos, negsuc}
 use Rattle.std.proofs.lemmas.Nat.{pow_pos}
 use Rattle.std.proofs.lemmas.List.{get_or_default}
@@ -13,38 +13,8 @@ use Rattle.xs_grammar.specs.Precinct.{Content}
 use Rattle.xs_grammar.specs.Codestream.{IsCodestreamFront}
 use Rattle.xs_reading.specs.Rows.{dequantised_rows}
 use Rattle.xs_decoding.specs.Decoded.{IsDecodingOf, IsPictureOf, decoded_sample}
-use Rattle.xs_cli.proofs.Samples.{one_place, place_of_index}
-
--- one element for each number of a range
-chosen : {A : Type 0} (P : ℕ → A → Type 0) (d : A) (n first : ℕ) → ((k : ℕ) → k < n → (x : A) × P (first + k) x)
-    → (list : List A) × (length list ≡ n) × ((k : ℕ) → k < n → P (first + k) (get_or list k d))
-chosen P d zero first each = ([], refl, λ k below. absurd (omega (arith, below)))
-chosen {A} P d (suc n) first each =
-    let at_first = each 0 (omega arith) in
-    let rest = chosen P d n (first + 1) (λ k below. moved k (each (suc k) (omega (arith, below)))) in
-    (at_first.0 ∷ rest.0, longer at_first.0 rest.0 n rest.1, λ k below. at at_first.0 at_first.1 rest.0 rest.2 k below)
-  where
-    moved : (k : ℕ) → (x : A) × P (first + suc k) x → (x : A) × P (first + 1 + k) x
-    moved k p = let e : first + suc k ≡ first + 1 + k = omega arith in (p.0, subst (λ i. P i p.0) e p.1)
-
-    longer : (x : A) (xs : List A) (n : ℕ) → length xs ≡ n → length (x ∷ xs) ≡ suc n
-    longer x xs n e = omega (arith, e)
-
-    at : (x : A) → P (first + 0) x → (xs : List A) → ((k : ℕ) → k < n → P (first + 1 + k) (get_or xs k d)) → (k : ℕ) → k < suc n → P (first + k) (get_or (x ∷ xs) k d)
-    at x p xs rest zero below = p
-    at x p xs rest (suc k) below = let e : first + 1 + k ≡ first + suc k = omega arith in subst (λ i. P i (get_or xs k d)) e (rest k (omega (arith, below)))
-
--- one for each slice of a header, from slice 0 on
-chosen_each : {A : Type 0} (P : ℕ → A → Type 0) (d : A) (n : ℕ) → ((k : ℕ) → k < n → (x : A) × P k x) → (list : List A) × (length list ≡ n) × ((k : ℕ) → k < n → P k (get_or list k d))
-chosen_each {A} P d n each =
-    let found = chosen P d n 0 (λ k below. shifted k (each k below)) in
-    (found.0, found.1, λ k below. back k (get_or found.0 k d) (found.2 k below))
-  where
-    shifted : (k : ℕ) → (x : A) × P k x → (x : A) × P (0 + k) x
-    shifted k p = let e : k ≡ 0 + k = omega arith in (p.0, subst (λ i. P i p.0) e p.1)
-
-    back : (k : ℕ) (x : A) → P (0 + k) x → P k x
-    back k x p = let e : 0 + k ≡ k = omega arith in subst (λ i. P i x) e p
+use Rattle.xs_recv.proofs.Joined.{chosen_each}
+use Rattle.xs_recv.proofs.Samples.{one_place, place_of_index}
 
 clamped_small : (most : ℕ) (z : ℤ) → clamped most z ≤ most
 clamped_small most (pos n) = omega arith
@@ -73,7 +43,7 @@ sample_there h rows k below =
     moved : {a b c d e f : ℕ} → (a ≡ d) × (b ≡ e) × (c ≡ f) → decoded_sample h rows a b c ≡ decoded_sample h rows d e f
     moved {a} {b} {c} {d} {e} {f} p = ap (λ x. decoded_sample h rows x b c) p.0 ∙ ap (λ x. decoded_sample h rows d x c) p.1 ∙ ap (λ x. decoded_sample h rows d e x) p.2
 
-picture_there : (h : Header) (rows : Rows) → IsAccepted h → (picture : Picture) × IsPictureOf h rows picture
+pub picture_there : (h : Header) (rows : Rows) → IsAccepted h → (picture : Picture) × IsPictureOf h rows picture
 picture_there h rows accepted = (
   record { shape = h.shape; samples = found.0 },
   record {

@@ -16,7 +16,7 @@ use Rattle.xs_rate.specs.Encoding.{encoding_of}
 use Rattle.xs_capture.specs.Pictures.{most_pictures}
 use Rattle.xs_notes.specs.declared.note.Note.{Note}
 use Rattle.xs_notes.specs.declared.note.Note.TheVariants as note
-use Rattle.xs_endings.specs.Said.{Said, refused, status_of, status_of_notes}
+use Rattle.xs_endings.specs.Said.{Said, only_note, status_of, status_of_notes}
 use Rattle.xs_endings.specs.Turns.{AreWritten, Before, Ends, HasSaidAll, Turn, Writes, after, nothing}
 use Rattle.xs_words.specs.declared.command.Form.{Form}
 use Rattle.xs_words.specs.declared.command.Form.TheVariants.{Rtp, Xs}
@@ -24,11 +24,14 @@ use Rattle.xs_lists.specs.First.{first_some}
 use Rattle.xs_params.specs.Picture.{raw_bytes}
 use Rattle.xs_picture.proofs.Known.{streams_known}
 use Rattle.xs_words.specs.declared.command.Command.{Command}
-use Rattle.xs_words.specs.declared.command.Command.TheVariants.{Encode, Decode}
+use Rattle.xs_words.specs.declared.command.Command.TheVariants.{Encode, Decode, Trial}
+use Rattle.xs_trial.specs.Generator.{trial_picture}
+use Rattle.xs_cli.specs.Tried.{IsTriedBy}
 use Rattle.xs_cli.specs.Answer.{IsCommandAnswer}
 use Rattle.xs_cli.specs.Decoded.{IsDecodeTurn, IsDecoded, IsDecodedTurn, IsTurnUnless, decode_ends, fault_notes, input_limit}
 use Rattle.xs_cli.specs.Encoded.{IsEncodeTurn, encoded_as, first_picture, turn_unless}
 use Rattle.xs_cli.specs.Good.{AreGoodPictures, AreGoodStreams, AreStreams, IsGood, picture_at}
+use Rattle.xs_cli.proofs.CapturedWhole.{captured_good}
 use Rattle.xs_cli.proofs.Streams.{drop_bytes, end_ends, in_order}
 use Rattle.xs_cli.proofs.Turns.{end_turn, whole_turn, writes_whole}
 
@@ -172,14 +175,21 @@ ended_streams at rest notes streams turn = elim (cases_lt 0 (length rest)) [
 pub decoded_good : (input : List ℕ) → AreGoodStreams input → (said : Said) → IsDecoded Xs input said → status_of said ≡ 0
 decoded_good input good said answer =
     let test : nat_lt input_limit (length input) ≡ false = (let within = good.within in grind (arith, nat_tests)) in
-    let all : HasSaidAll IsDecodeTurn input said = subst (λ (b : Bool). MatchBool b (said ≡ refused (note.InputLimit input_limit)) (HasSaidAll IsDecodeTurn input said)) test answer in
+    let all : HasSaidAll IsDecodeTurn input said = subst (λ (b : Bool). MatchBool b (said ≡ only_note (note.InputLimit input_limit)) (HasSaidAll IsDecodeTurn input said)) test answer in
     let start : Streams nothing input = record { bytes = good.bytes; sizes = good.sizes; are = good.streams; few = omega (arith, good.most) } in
     let streams = all_streams nothing all.first.end input all.first.rest all.first.pieces start all.first.written in
     ap status_of_notes (ended_streams all.first.end all.first.rest said.notes streams all.ended)
+
+-- Trials
+
+tried_good : (s : Settings) (picture : Picture) (stream : Stream) (said : Said) → IsTriedBy s picture (Ok stream) said → status_of said ≡ 0
+tried_good s picture stream said tried = ap status_of tried.2
 
 -- Commands
 
 pub good_status : (command : Command) (input : List ℕ) (said : Said) → IsGood command input → IsCommandAnswer command input said → status_of said ≡ 0
 good_status (Encode settings form) input said good answer = encoded_good settings form input good said answer
 good_status (Decode Xs workers feeders) input said good answer = decoded_good input good said answer
-good_status (Decode Rtp workers feeders) input said good answer = absurd good
+good_status (Decode Rtp workers feeders) input said good answer = captured_good input good said answer
+good_status (Trial settings seed) input said good answer =
+    tried_good settings (trial_picture settings.shape seed) good.0 said (subst (λ r. IsTriedBy settings (trial_picture settings.shape seed) r said) good.1 answer)

@@ -1,7 +1,7 @@
 -- How a run ends, from what its command left and from the last note.
 use Rattle.std.proofs.Common.{◌≡◌, ℕ, ◌≤◌, List, [], Option, Some, None, Result, Ok, Err, refl, sym, ap, subst, ◌∙◌, arith, inl, inr, ◌⊎◌}
 use Rattle.std.specs.Prelude.{IfErr, ⊤, unwrap_or}
-use Rattle.std.proofs.KnownBytes.{Consumes-nil, Keeps-refl}
+use Rattle.std.proofs.KnownBytes.{Consumes-nil}
 use Rattle.xs_notes.specs.Lines.{NamesFault, note_line}
 use Rattle.xs_endings.specs.declared.stop.Stop.{Stop}
 use Rattle.xs_endings.specs.declared.stop.Stop.TheVariants as stop
@@ -9,6 +9,7 @@ use Rattle.xs_endings.specs.Ends.{Change, Ends, HasFailed, IsLeft, change_of, en
 use Rattle.xs_endings.specs.Endings.{HasSinkFailed, IsEnding}
 use Rattle.xs_endings.specs.Said.{note_status}
 use Rattle.xs_endings.specs.Steps.{IsClosed, IsHalt, NamesStop, Tells}
+use Rattle.xs_endings.proofs.Changes.{rose_after}
 use Rattle.xs_endings.proofs.Closing.{ending}
 use Rattle.xs_words.specs.declared.command.Refusal.{Refusal}
 use Rattle.xs_words.specs.declared.command.Refusal.TheVariants as refusal
@@ -65,11 +66,8 @@ unless_broken notes wanted status (Whole e) = inl e
 unless_broken notes wanted status (Failed e failed) = inr (inl e)
 unless_broken notes wanted status (Wanting e) = inr (inr e)
 
-module _ (words : List (List ℕ)) (source output : Change) (b c : Option (List ℕ)) (g h : ℕ) (status : ℕ) where
-  ends : Ends
-  ends = ends_of source output (change_of b c g h)
-
-  read_cause : (result : Result ℕ Stop) (input : List ℕ) → IsLow result → IsHalt (IsAnswer words input) (IsStanding words) input (ends_of source output (untouched b g)) result → IsClosed (change_of b c g h) result status
+module _ (words : List (List ℕ)) (source output : Change) (a b c : Option (List ℕ)) (f g h : ℕ) (status : ℕ) where
+  read_cause : (result : Result ℕ Stop) (input : List ℕ) → IsLow result → IsHalt (IsAnswer words input) (IsStanding words) input (ends_of source output (change_of a b f g)) result → IsClosed (change_of b c g h) result status
       → status ≡ 7 → HasFailed source
   read_cause (Ok done) input (inl is) halt closed e = absurd (omega (arith, is, closed.1, e))
   read_cause (Ok done) input (inr is) halt closed e = absurd (omega (arith, is.1, closed.1, e))
@@ -82,25 +80,25 @@ module _ (words : List (List ℕ)) (source output : Change) (b c : Option (List 
   read_cause (Err stop.WriteFault) input is halt closed e = absurd (omega (arith, closed.1, e))
   read_cause (Err stop.Memory) input is halt closed e = absurd (omega (arith, closed.1, e))
 
-  write_cause : (result : Result ℕ Stop) (input : List ℕ) → IsLow result → IsHalt (IsAnswer words input) (IsStanding words) input (ends_of source output (untouched b g)) result → IsClosed (change_of b c g h) result status
-      → status ≡ 8 → HasFailed output ⊎ HasFailed (change_of b c g h)
-  write_cause (Ok done) input (inl is) halt closed e = absurd (omega (arith, is, closed.1, e))
-  write_cause (Ok done) input (inr is) halt closed e = absurd (omega (arith, is.1, closed.1, e))
-  write_cause (Err (stop.Told why)) input is halt closed e = elim (ended _ _ _ _ closed) [
+  write_cause : (result : Result ℕ Stop) (input : List ℕ) → IsLow result → f ≤ g → IsHalt (IsAnswer words input) (IsStanding words) input (ends_of source output (change_of a b f g)) result → IsClosed (change_of b c g h) result status
+      → status ≡ 8 → HasFailed output ⊎ HasFailed (change_of a c f h)
+  write_cause (Ok done) input (inl is) later halt closed e = absurd (omega (arith, is, closed.1, e))
+  write_cause (Ok done) input (inr is) later halt closed e = absurd (omega (arith, is.1, closed.1, e))
+  write_cause (Err (stop.Told why)) input is later halt closed e = elim (ended _ _ _ _ closed) [
     | Whole same ↦ absurd (omega (arith, is.1, same, e))
-    | Failed same failed ↦ inr failed
+    | Failed same failed ↦ inr (rose_after f g h later failed)
     | Wanting same ↦ absurd (omega (arith, same, e))
   ]
-  write_cause (Err stop.ReadFault) input is halt closed e = elim (ended _ _ _ _ closed) [
+  write_cause (Err stop.ReadFault) input is later halt closed e = elim (ended _ _ _ _ closed) [
     | Whole same ↦ absurd (omega (arith, same, e))
-    | Failed same failed ↦ inr failed
+    | Failed same failed ↦ inr (rose_after f g h later failed)
     | Wanting same ↦ absurd (omega (arith, same, e))
   ]
-  write_cause (Err stop.WriteFault) input is halt closed e = elim halt.0 [
+  write_cause (Err stop.WriteFault) input is later halt closed e = elim halt.0 [
     | inl out ↦ inl out
-    | inr notes ↦ inr (subst (λ (n : ℕ). HasFailed (change_of b c g n)) (sym closed.0.faults) notes)
+    | inr notes ↦ inr (subst (λ (n : ℕ). HasFailed (change_of a c f n)) (sym closed.0.faults) notes)
   ]
-  write_cause (Err stop.Memory) input is halt closed e = absurd (omega (arith, closed.1, e))
+  write_cause (Err stop.Memory) input is later halt closed e = absurd (omega (arith, closed.1, e))
 
   in_range : (result : Result ℕ Stop) → IsLow result → IsClosed (change_of b c g h) result status → status ≤ 9
   in_range (Ok done) (inl is) closed = omega (arith, is, closed.1)
@@ -211,34 +209,34 @@ complete words _ status whole input told read sinks =
     let answered = subst (λ (i : List ℕ). HasStatusOfAnswer words i status ⊎ (status ≡ 9)) same (settled words whole.input _ status read sinks whole.ending) in
     record { answered = answered; good = good_ending words input status answered }
 
-pub ran : (words : List (List ℕ)) (source output : Change) (b c : Option (List ℕ)) (g h : ℕ) (result : Result ℕ Stop) (status : ℕ) → IsExecuted words (ends_of source output (untouched b g)) result
-    → IsClosed (change_of b c g h) result status → IsRun words (ends_of source output (change_of b c g h)) status
-ran words source output b c g h result status done closed =
+pub ran : (words : List (List ℕ)) (source output : Change) (a b c : Option (List ℕ)) (f g h : ℕ) (result : Result ℕ Stop) (status : ℕ) → IsExecuted words (ends_of source output (change_of a b f g)) result
+    → IsClosed (change_of b c g h) result status → IsRun words (ends_of source output (change_of a c f h)) status
+ran words source output a b c f g h result status done closed =
     let is = low (refusal_of words) result done.stop in
-    let headline : HasAnswer words (ends_of source output (change_of b c g h)) status = record {
+    let headline : HasAnswer words (ends_of source output (change_of a c f h)) status = record {
       input = done.input;
       left = done.left;
-      ending = ending (IsAnswer words done.input) (IsStanding words) done.input source output b b c g g h result status (omega arith) done.halt closed;
+      ending = ending (IsAnswer words done.input) (IsStanding words) done.input source output a b c f g h result status done.later done.halt closed;
     } in
     record {
       headline = headline;
       cause = record {
-        read = read_cause words source output b c g h status result done.input is done.halt closed;
-        write = write_cause words source output b c g h status result done.input is done.halt closed;
-        range = in_range words source output b c g h status result is closed;
+        read = read_cause words source output a b c f g h status result done.input is done.halt closed;
+        write = write_cause words source output a b c f g h status result done.input is done.later done.halt closed;
+        range = in_range words source output a b c f g h status result is closed;
       };
       refusals = record {
-        words_only = words_only words source output b c g h status (refusal_of words) result refl done.stop closed;
-        bad_words = λ bad. unless_broken (change_of b c g h) 1 status (refusal_closed words source output b c g h status (refusal.Words bad.0) result (subst (λ (o : Option Refusal). IsOwnStop o result) bad.1 done.stop) closed);
-        setting_only = setting_only words source output b c g h status (refusal_of words) result refl done.stop closed;
-        bad_setting = λ bad. unless_broken (change_of b c g h) 2 status (refusal_closed words source output b c g h status (refusal.Setting bad.0) result (subst (λ (o : Option Refusal). IsOwnStop o result) bad.1 done.stop) closed);
+        words_only = words_only words source output a b c f g h status (refusal_of words) result refl done.stop closed;
+        bad_words = λ bad. unless_broken (change_of b c g h) 1 status (refusal_closed words source output a b c f g h status (refusal.Words bad.0) result (subst (λ (o : Option Refusal). IsOwnStop o result) bad.1 done.stop) closed);
+        setting_only = setting_only words source output a b c f g h status (refusal_of words) result refl done.stop closed;
+        bad_setting = λ bad. unless_broken (change_of b c g h) 2 status (refusal_closed words source output a b c f g h status (refusal.Setting bad.0) result (subst (λ (o : Option Refusal). IsOwnStop o result) bad.1 done.stop) closed);
       };
       source = record {
-        whole = λ e. done.whole (done_at_0 words source output b c g h status result is closed e);
+        whole = λ e. done.whole (done_at_0 words source output a b c f g h status result is closed e);
         most = done.most;
         kept = done.kept;
       };
-      complete = complete words (ends_of source output (change_of b c g h)) status headline;
+      complete = complete words (ends_of source output (change_of a c f h)) status headline;
     }
 
 -- memory was wanting before the words were known
@@ -253,6 +251,6 @@ starved words a p n f u v =
       headline = headline;
       cause = record { read = λ e. absurd (omega (arith, e)); write = λ e. absurd (omega (arith, e)); range = omega arith };
       refusals = record { words_only = λ e. absurd (omega (arith, e)); bad_words = λ _. inr (inr refl); setting_only = λ e. absurd (omega (arith, e)); bad_setting = λ _. inr (inr refl) };
-      source = record { whole = λ e. absurd (omega (arith, e)); most = ([], omega arith, Consumes-nil a); kept = λ _. Keeps-refl a };
+      source = record { whole = λ e. absurd (omega (arith, e)); most = ([], omega arith, Consumes-nil a); kept = λ _. record { bytes = refl; faults = refl } };
       complete = complete words (ends_of (untouched a f) (untouched p u) (untouched n v)) 9 headline;
     }

@@ -36,7 +36,7 @@ use Rattle.xs_endings.proofs.Pictures.{Goes, finished, fronts, left_to_tell, tak
 use Rattle.xs_endings.proofs.Turns.{joined_more, written_more}
 use Rattle.xs_cli.specs.Decoded.{IsDecodeTurn, IsTurnUnless, decode_ends, fault_notes}
 use Rattle.xs_cli.specs.Encoded.{too_many}
-use Rattle.xs_cli.specs.Steps.{AreDecoded, IsBadEnd, IsNext, IsOwnNote, IsTold}
+use Rattle.xs_cli.specs.Steps.{AreStreamsDecoded, IsBadEnd, IsNext, IsOwnNote, IsTold}
 use Rattle.xs_cli.proofs.Exists.{picture_exists}
 
 -- Tests in an order
@@ -166,19 +166,19 @@ module _ (bytes : List ℕ) (p q r : Option (List ℕ)) (u v w : ℕ) (picture p
         later = omega (arith, before.later, later);
       }
 
-  pub all_decoded : drop place bytes ≡ [] → AreDecoded bytes (change_of p q u v) (Ok 0)
+  pub all_decoded : drop place bytes ≡ [] → AreStreamsDecoded bytes (change_of p q u v) (Ok 0)
   all_decoded none = λ command source held faults.
       let at : Before = record { pictures = picture; bytes = place; sequence = 0 } in
       finished IsDecodeTurn AreBytes at bytes (drop place bytes) before.pieces before.written (end_next at (drop place bytes) (ap length none)) source (change_of p q u v) before.given held faults
 
   pub told_decoded : (why : Note) → Appends p r (concat before.pieces) → IsDecodeTurn (record { pictures = picture; bytes = place; sequence = 0 }) (drop place bytes) (Ends (why ∷ []))
-      → AreDecoded bytes (change_of p r u w) (Err (stop.Told why))
+      → AreStreamsDecoded bytes (change_of p r u w) (Err (stop.Told why))
   told_decoded why given turn = λ command source held faults.
       let at : Before = record { pictures = picture; bytes = place; sequence = 0 } in
       left_to_tell IsDecodeTurn AreBytes at bytes (drop place bytes) before.pieces why before.written turn source (change_of p r u w) given held faults
 
   pub stop_decoded : (why : Stop) → AreBytes (drop place bytes) → IsNext (record { pictures = picture; bytes = place; sequence = 0 }) (drop place bytes) (change_of q r v w) (Err why)
-      → AreDecoded bytes (change_of p r u w) (Err why)
+      → AreStreamsDecoded bytes (change_of p r u w) (Err why)
   stop_decoded (stop.Told why) are next =
       told_decoded why (Appends-kept p q r (concat before.pieces) before.given next.2.kept) (subst (λ (t : Turn). IsDecodeTurn (record { pictures = picture; bytes = place; sequence = 0 }) (drop place bytes) t) next.2.ends next.1)
   stop_decoded stop.ReadFault are next = absurd next.2

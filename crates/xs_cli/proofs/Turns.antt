@@ -106,13 +106,13 @@ written_size s Xs at (Ok stream) size piece packets e = cc
 written_size s Rtp at (Ok stream) size piece packets e = cc
 written_size s form at (Err budget) size piece packets e = absurd (cc)
 
-pub record IsWhole (s : Settings) (at : Before) (input : List ℕ) (size : ℕ) : Type 0 where
+pub record IsWholePicture (s : Settings) (at : Before) (input : List ℕ) (size : ℕ) : Type 0 where
   pub exact : size ≡ raw_size s.shape
   pub whole : raw_size s.shape ≤ length input
   pub some : 1 ≤ length input
   pub few : at.pictures < most_pictures
 
-pub writes_whole : (s : Settings) (form : Form) (at : Before) (input : List ℕ) (size : ℕ) (piece : List ℕ) (packets : ℕ) → IsEncodeTurn s form at input (Writes size piece packets) → IsWhole s at input size
+pub writes_whole : (s : Settings) (form : Form) (at : Before) (input : List ℕ) (size : ℕ) (piece : List ℕ) (packets : ℕ) → IsEncodeTurn s form at input (Writes size piece packets) → IsWholePicture s at input size
 writes_whole s form at input size piece packets turn =
     let parts = writes_not_ends size piece packets (first_some (ends_before s at input)) (encoded_as s form at (encoding_of s (first_picture s input))) turn in
     let tests = all_false (nat_eq (length input) 0) (nat_le most_pictures at.pictures) (nat_lt (length input) (raw_size s.shape)) [] (too_many ∷ []) (note.InputCut (at.bytes + length input) ∷ []) (option_map (λ place. note.InputSample (at.bytes + place) ∷ []) (over_sample (first_picture s input))) parts.0 in

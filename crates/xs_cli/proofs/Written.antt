@@ -32,7 +32,7 @@ use Rattle.xs_words.specs.declared.command.Command.TheVariants.{Encode}
 use Rattle.xs_cli.specs.Answer.{most_wanted}
 use Rattle.xs_cli.specs.Encoded.{IsEncodeTurn, encode_turn, too_many}
 use Rattle.xs_cli.specs.Steps.{IsDone, IsOwnNote, IsRead}
-use Rattle.xs_cli.specs.Places.{IsStreamOf}
+use Rattle.xs_cli.specs.Places.{IsStreamAt}
 use Rattle.xs_cli.proofs.Inputs.{HasRest, front_of, no_bytes, rest_of, used_up}
 use Rattle.xs_cli.proofs.Turns.{encode_goes, end_turn, many_turn, more_behind, writes_whole}
 
@@ -118,6 +118,7 @@ module _ (s : Settings) (form : Form) (a b c p q r : Option (List ℕ)) (f g h u
         stop = inl refl;
         whole = λ _. used_up a c f h before.taken consumed end;
         most = took want [] room (omega arith) read.0;
+        untaken = λ never. absurd never;
         later = omega arith;
       }
 
@@ -138,6 +139,7 @@ module _ (s : Settings) (form : Form) (a b c p q r : Option (List ℕ)) (f g h u
         stop = own;
         whole = λ e. absurd (cc);
         most = took want bytes room read.1 read.0;
+        untaken = λ never. absurd never;
         later = omega arith;
       }
 
@@ -170,6 +172,7 @@ module _ (s : Settings) (form : Form) (a b c p q r : Option (List ℕ)) (f g h u
         stop = tt;
         whole = λ e. absurd (cc);
         most = (before.taken ++ found.front, omega (arith, length-append before.taken found.front, before.size, room, found.short), found.consumed);
+        untaken = λ never. absurd never;
         later = omega arith;
       }
 
@@ -186,6 +189,7 @@ module _ (s : Settings) (form : Form) (a b c p q r : Option (List ℕ)) (f g h u
         stop = tt;
         whole = λ e. absurd (cc);
         most = took want read.0 room read.1 read.2;
+        untaken = λ never. absurd never;
         later = omega arith;
       }
 
@@ -233,6 +237,7 @@ module _ (s : Settings) (form : Form) (a b c p q r : Option (List ℕ)) (f g h u
             stop = tt;
             whole = λ e. absurd (cc);
             most = took (raw_size s.shape) bytes room read.1 read.0;
+            untaken = λ never. absurd never;
             later = omega arith;
           }
       by_why stop.Memory rest taken own =
@@ -244,11 +249,12 @@ module _ (s : Settings) (form : Form) (a b c p q r : Option (List ℕ)) (f g h u
             stop = tt;
             whole = λ e. absurd (cc);
             most = took (raw_size s.shape) bytes room read.1 read.0;
+            untaken = λ never. absurd never;
             later = omega arith;
           }
 
 -- no codestream was made of a picture
-pub untaken : (s : Settings) (form : Form) (at : Before) (bytes : List ℕ) (why : Stop) → IsStreamOf s at bytes (Err why) → (held : Option (List ℕ)) (u : ℕ)
+pub untaken : (s : Settings) (form : Form) (at : Before) (bytes : List ℕ) (why : Stop) → IsStreamAt s at bytes (Err why) → (held : Option (List ℕ)) (u : ℕ)
     → IsTaken (untouched held u) (encode_turn s form at bytes) (Err why)
 untaken s form at bytes (stop.Told why) stream held u = record { ends = stream form; kept = Keeps-refl held }
 untaken s form at bytes stop.ReadFault stream held u = absurd stream

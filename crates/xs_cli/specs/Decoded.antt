@@ -1,5 +1,5 @@
 -- What `decode` writes and says: 'Command words' and 'Notes'.
-use Rattle.std.specs.Prelude.{◌≡◌, ⊤, ℕ, ◌+◌, ◌-◌, ◌^◌, nat_eq, nat_le, nat_lt, Option, None, Some, MatchBool, List, [], ◌∷◌, length}
+use Rattle.std.specs.Prelude.{◌≡◌, ℕ, ◌+◌, ◌-◌, ◌^◌, nat_eq, nat_le, nat_lt, Option, None, Some, MatchBool, List, [], ◌∷◌, length}
 use Rattle.std.specs.Option.{option_map}
 use Rattle.xs_lists.specs.First.{when, first_some}
 use Rattle.xs_params.specs.Geometry.{slice_count}
@@ -13,10 +13,11 @@ use Rattle.xs_picture.specs.StreamRead.{IsPictureRead}
 use Rattle.xs_capture.specs.Pictures.{most_pictures}
 use Rattle.xs_notes.specs.declared.note.Note.{Note}
 use Rattle.xs_notes.specs.declared.note.Note.TheVariants as note
-use Rattle.xs_endings.specs.Said.{Said, refused}
+use Rattle.xs_endings.specs.Said.{Said, only_note}
 use Rattle.xs_endings.specs.Turns.{Before, Ends, HasSaidAll, Turn, Writes}
 use Rattle.xs_words.specs.declared.command.Form.{Form}
 use Rattle.xs_words.specs.declared.command.Form.TheVariants.{Rtp, Xs}
+use Rattle.xs_cli.specs.Captured.{IsCaptured}
 use Rattle.xs_cli.specs.Encoded.{too_many}
 
 -- the most bytes of an input
@@ -60,10 +61,10 @@ IsDecodeTurn before rest turn = IsTurnUnless (first_some (decode_ends before res
 
 -- The answer, where an input over the limit is refused first
 
--- of codestreams; no words ask for another form
+-- of codestreams, or of a capture
 abbrev pub IsFormAnswer : Form → List ℕ → Said → Type 0
-IsFormAnswer Xs input said = HasSaidAll IsDecodeTurn input said
-IsFormAnswer Rtp input said = ⊤
+IsFormAnswer Xs = HasSaidAll IsDecodeTurn
+IsFormAnswer Rtp = IsCaptured
 
 abbrev pub IsDecoded : Form → List ℕ → Said → Type 0
-IsDecoded form input said = MatchBool (nat_lt input_limit (length input)) (said ≡ refused (note.InputLimit input_limit)) (IsFormAnswer form input said)
+IsDecoded form input said = MatchBool (nat_lt input_limit (length input)) (said ≡ only_note (note.InputLimit input_limit)) (IsFormAnswer form input said)

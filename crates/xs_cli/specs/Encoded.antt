@@ -38,13 +38,13 @@ abbrev pub over_share : ℕ → Budget → Note
 over_share picture budget = note.Budget picture budget.slice budget.size budget.share
 
 -- the packets of a picture: its timestamp follows from its number, and its packets are numbered on from those before
-abbrev pub packets_of : Settings → Before → Stream → List (List ℕ)
-packets_of s before stream = datagrams_of s stream before.pictures before.sequence
+abbrev pub packets_sent : Settings → Before → Stream → List (List ℕ)
+packets_sent s before stream = datagrams_of s stream before.pictures before.sequence
 
 -- a picture is written as its codestream, or as the frames of its packets
 abbrev pub written_as : Settings → Form → Before → Stream → Turn
 written_as s Xs before stream = Writes (raw_size s.shape) (stream_bytes stream) 0
-written_as s Rtp before stream = Writes (raw_size s.shape) (flat_map frame (packets_of s before stream)) (length (packets_of s before stream))
+written_as s Rtp before stream = Writes (raw_size s.shape) (flat_map frame (packets_sent s before stream)) (length (packets_sent s before stream))
 
 abbrev pub encoded_as : Settings → Form → Before → Result Stream Budget → Turn
 encoded_as s form before (Ok stream) = written_as s form before stream

@@ -1,5 +1,5 @@
 -- Inputs that are answered with status 0.
-use Rattle.std.specs.Prelude.{◌≡◌, ℕ, ◌*◌, ◌<◌, ◌≤◌, None, Ok, List, [], ◌∷◌, length, drop}
+use Rattle.std.specs.Prelude.{◌≡◌, ℕ, ◌*◌, ◌<◌, ◌≤◌, ◌⊎◌, None, Ok, List, [], ◌∷◌, length, drop, Contains}
 use Rattle.xs_lists.specs.Packing.{AreBytes}
 use Rattle.xs_params.specs.declared.header.Header.{Header}
 use Rattle.xs_params.specs.declared.settings.Settings.{Settings}
@@ -8,11 +8,17 @@ use Rattle.xs_params.specs.Stream.{Stream}
 use Rattle.xs_grammar.specs.Precinct.{Content}
 use Rattle.xs_grammar.specs.Codestream.{IsCodestreamFront}
 use Rattle.xs_rate.specs.Encoding.{encoding_of}
-use Rattle.xs_capture.specs.Pictures.{most_pictures}
+use Rattle.xs_capture.specs.Capture.{IsCapture}
+use Rattle.xs_capture.specs.Offer.{Offer}
+use Rattle.xs_capture.specs.Offers.{AllAgree, offers_at, offers_of}
+use Rattle.xs_capture.specs.Pictures.{AreTimestamps, most_pictures}
+use Rattle.xs_capture.specs.Selection.{Held, IsSelection}
+use Rattle.xs_recv.specs.Received.{AreSpelled, AreUnits, HasHeader, stream_size}
 use Rattle.xs_words.specs.declared.command.Command.{Command}
-use Rattle.xs_words.specs.declared.command.Command.TheVariants.{Encode, Decode}
+use Rattle.xs_words.specs.declared.command.Command.TheVariants.{Encode, Decode, Trial}
 use Rattle.xs_words.specs.declared.command.Form.{Form}
 use Rattle.xs_words.specs.declared.command.Form.TheVariants.{Rtp, Xs}
+use Rattle.xs_trial.specs.Generator.{trial_picture}
 use Rattle.xs_cli.specs.Decoded.{input_limit}
 use Rattle.xs_cli.specs.Encoded.{first_picture}
 
@@ -41,10 +47,40 @@ pub record AreGoodStreams (input : List ℕ) : Type 0 where
   pub streams : AreStreams sizes input
   pub most : length sizes ≤ most_pictures
 
+-- the header and all slices of a picture are whole in what is selected and in the grammar, and the length is right where the header states one
+pub record IsWholePicture (held : Held) : Type 0 where
+  pub header : Header
+  pub size : ℕ
+  pub headed : HasHeader held header size
+  pub units : List (List ℕ)
+  pub whole : AreUnits held header units
+  pub content : Content
+  pub spelled : AreSpelled header content units
+  pub stated : (header.lcod ≡ 0) ⊎ (header.lcod ≡ stream_size size units)
+
+-- the offers of a picture have a selection in which it is whole
+pub record AreWhole (offers : List Offer) : Type 0 where
+  pub held : Held
+  pub selection : IsSelection offers held
+  pub picture : IsWholePicture held
+
+-- whole frames, whose offers agree, of no more pictures than a run has, each of which is whole
+pub record IsGoodCapture (input : List ℕ) : Type 0 where
+  pub bytes : AreBytes input
+  pub within : length input ≤ input_limit
+  pub packets : List (List ℕ)
+  pub whole : IsCapture packets input
+  pub agree : AllAgree (offers_of packets)
+  pub timestamps : List ℕ
+  pub listed : AreTimestamps (offers_of packets) timestamps
+  pub most : length timestamps ≤ most_pictures
+  pub pictures : (timestamp : ℕ) → Contains timestamps timestamp → AreWhole (offers_at timestamp (offers_of packets))
+
 abbrev pub IsGoodForm : Form → List ℕ → Type 0
 IsGoodForm Xs input = AreGoodStreams input
-IsGoodForm Rtp input = ⊥
+IsGoodForm Rtp input = IsGoodCapture input
 
 abbrev pub IsGood : Command → List ℕ → Type 0
 IsGood (Encode settings form) input = AreGoodPictures settings input
 IsGood (Decode form workers feeders) input = IsGoodForm form input
+IsGood (Trial settings seed) input = (stream : Stream) × (encoding_of settings (trial_picture settings.shape seed) ≡ Ok stream)

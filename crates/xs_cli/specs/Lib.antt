@@ -1,9 +1,15 @@
 pub mod Encoded
+pub mod Captured
 pub mod Decoded
 pub mod Places
 pub mod Answer
 pub mod Good
 pub mod Run
 pub mod Steps
+pub mod Receiving
 pub mod Program
 pub mod Laws
+pub mod CapturedLaws
+pub mod Tried
+pub mod Trying
+pub mod TriedLaws

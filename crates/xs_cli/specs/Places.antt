@@ -13,9 +13,9 @@ abbrev pub before_of : Place → Before
 before_of place = record { pictures = place.picture; bytes = place.byte; sequence = place.sequence }
 
 -- in either form the turn writes the codestream, or ends the run with the note; want of memory is free
-abbrev pub IsStreamOf : Settings → Before → List ℕ → Result Stream Stop → Type 0
-IsStreamOf s before bytes (Ok stream) = (form : Form) → encode_turn s form before bytes ≡ written_as s form before stream
-IsStreamOf s before bytes (Err (stop.Told note)) = (form : Form) → encode_turn s form before bytes ≡ Ends (note ∷ [])
-IsStreamOf s before bytes (Err stop.Memory) = ⊤
-IsStreamOf s before bytes (Err stop.ReadFault) = ⊥
-IsStreamOf s before bytes (Err stop.WriteFault) = ⊥
+abbrev pub IsStreamAt : Settings → Before → List ℕ → Result Stream Stop → Type 0
+IsStreamAt s before bytes (Ok stream) = (form : Form) → encode_turn s form before bytes ≡ written_as s form before stream
+IsStreamAt s before bytes (Err (stop.Told note)) = (form : Form) → encode_turn s form before bytes ≡ Ends (note ∷ [])
+IsStreamAt s before bytes (Err stop.Memory) = ⊤
+IsStreamAt s before bytes (Err stop.ReadFault) = ⊥
+IsStreamAt s before bytes (Err stop.WriteFault) = ⊥

@@ -1,14 +1,13 @@
 -- What a run owes to its words and to the ends that it is given.
-use Rattle.std.specs.Prelude.{◌≡◌, ℕ, ◌≤◌, ◌⊎◌, Some, None, IsSome, List}
-use Rattle.std.specs.Io.KnownBytes.{Keeps}
+use Rattle.std.specs.Prelude.{◌≡◌, ℕ, ◌≤◌, ◌⊎◌, Some, None, List}
 use Rattle.xs_params.specs.declared.settings.Setting.{Setting}
 use Rattle.xs_words.specs.declared.command.Refusal.TheVariants as refusal
 use Rattle.xs_words.specs.Refusal.{refusal_of}
 use Rattle.xs_words.specs.Command.{command_of}
-use Rattle.xs_endings.specs.Ends.{Change, Ends, HasFailed, TookAtMost, WasLeft, IsUsedUp}
+use Rattle.xs_endings.specs.Ends.{Change, Ends, HasFailed, TookAtMost, WasLeft, IsUntouched}
 use Rattle.xs_endings.specs.Endings.{HasSinkFailed, IsEnding}
 use Rattle.xs_endings.specs.Said.{Said, status_of}
-use Rattle.xs_cli.specs.Answer.{IsAnswer, IsStanding, most_wanted}
+use Rattle.xs_cli.specs.Answer.{IsAnswer, IsStanding, IsUnread, LeavesEnd, most_wanted}
 use Rattle.xs_cli.specs.Good.{IsGood}
 
 -- The headline: there is an input, which is what was left where the source tells it, such that the run ended in one of the three ways, by an answer of
@@ -44,11 +43,12 @@ pub record HasRefusals (words : List (List ℕ)) (status : ℕ) : Type 0 where
   pub setting_only : status ≡ 2 → AskBadSetting words
   pub bad_setting : AskBadSetting words → IsUnlessBroken 2 status
 
--- status 0 leaves the source at its end; no more than the command wants is taken; refused words leave the source as it was
+-- status 0 leaves the source of a command that reads at its end; no more than the command wants is taken; refused words, and a trial, leave the source as
+-- it was
 pub record LeavesSource (words : List (List ℕ)) (source : Change) (status : ℕ) : Type 0 where
-  pub whole : status ≡ 0 → IsUsedUp source
+  pub whole : status ≡ 0 → LeavesEnd (command_of words) source
   pub most : TookAtMost (most_wanted (command_of words)) source
-  pub kept : IsSome (refusal_of words) → Keeps source.before source.after
+  pub kept : IsUnread words → IsUntouched source
 
 -- the status is that of an answer
 abbrev pub HasStatusOfAnswer : List (List ℕ) → List ℕ → ℕ → Type 0

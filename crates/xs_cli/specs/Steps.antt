@@ -1,6 +1,6 @@
 -- What the steps of a run owe beside its halt.
-use Rattle.std.specs.Prelude.{◌≡◌, ℕ, ◌-◌, ◌<◌, ◌≤◌, ◌⊎◌, ⊤, Option, None, Some, IsSome, Result, Ok, Err, List, [], ◌∷◌, length}
-use Rattle.std.specs.Io.KnownBytes.{Consumes, IsAtEnd, Keeps}
+use Rattle.std.specs.Prelude.{◌≡◌, ℕ, ◌-◌, ◌<◌, ◌≤◌, ◌⊎◌, ⊤, Option, None, Some, Result, Ok, Err, List, [], ◌∷◌, length}
+use Rattle.std.specs.Io.KnownBytes.{Consumes, IsAtEnd}
 use Rattle.xs_params.specs.Geometry.{slice_count}
 use Rattle.xs_faults.specs.declared.SliceFault.TheVariants as slice_fault
 use Rattle.xs_markers.specs.Reading.{header_at}
@@ -8,7 +8,7 @@ use Rattle.xs_notes.specs.declared.note.Note.TheVariants as note
 use Rattle.xs_notes.specs.Lines.{NamesFault}
 use Rattle.xs_endings.specs.declared.stop.Stop.{Stop}
 use Rattle.xs_endings.specs.declared.stop.Stop.TheVariants as stop
-use Rattle.xs_endings.specs.Ends.{Change, Ends, Got, HasFailed, IsLater, IsUsedUp, TookAtMost, WasLeft, ends_of, untouched}
+use Rattle.xs_endings.specs.Ends.{Change, Ends, Got, HasFailed, IsLater, IsUntouched, TookAtMost, WasLeft, ends_of, untouched}
 use Rattle.xs_endings.specs.Said.{note_status}
 use Rattle.xs_endings.specs.Steps.{IsHalt}
 use Rattle.xs_endings.specs.Turns.{Before, Ends as Ending, HasSaidAll, IsTaken, Turn, Writes}
@@ -17,7 +17,7 @@ use Rattle.xs_words.specs.Refusal.{refusal_of}
 use Rattle.xs_words.specs.Command.{command_of}
 use Rattle.xs_words.specs.declared.command.Command.{Command}
 use Rattle.xs_cli.specs.Decoded.{IsDecodeTurn}
-use Rattle.xs_cli.specs.Answer.{IsAnswer, IsCommandAnswer, IsCommandStanding, IsStanding, most_wanted, refusal_note}
+use Rattle.xs_cli.specs.Answer.{IsAnswer, IsCommandAnswer, IsCommandStanding, IsStanding, IsTrial, IsUnread, LeavesEnd, most_wanted, refusal_note}
 
 -- a status of a command
 abbrev pub IsCommandStatus : ℕ → Type 0
@@ -33,14 +33,15 @@ abbrev pub IsCommandStop : Result ℕ Stop → Type 0
 IsCommandStop (Ok status) = (status ≡ 0) ⊎ IsCommandStatus status
 IsCommandStop (Err why) = IsOwnNote why
 
--- what a command owes: status 0 leaves the source at its end
+-- what a command owes: status 0 leaves the source of one that reads at its end, and a trial leaves it as it was
 pub record IsDone (command : Command) (ends : Ends) (result : Result ℕ Stop) : Type 0 where
   pub input : List ℕ
   pub left : WasLeft ends.input input
   pub halt : IsHalt (IsCommandAnswer command input) (IsCommandStanding command) input ends result
   pub stop : IsCommandStop result
-  pub whole : result ≡ Ok 0 → IsUsedUp ends.input
+  pub whole : result ≡ Ok 0 → LeavesEnd command ends.input
   pub most : TookAtMost (most_wanted command) ends.input
+  pub untaken : IsTrial command → IsUntouched ends.input
   pub later : IsLater ends.notes
 
 -- a command that tells nothing itself owes the same, whatever the notes are
@@ -77,8 +78,8 @@ IsBadEnd picture rest stop.Memory = ⊤
 IsBadEnd picture rest why = why ≡ stop.Told (note.DamagedSlice picture (slice_count (header_at rest) - 1) slice_fault.End)
 
 -- codestreams that are whole in memory are decoded, whatever source and notes are
-abbrev pub AreDecoded : List ℕ → Change → Result ℕ Stop → Type 0
-AreDecoded bytes output result =
+abbrev pub AreStreamsDecoded : List ℕ → Change → Result ℕ Stop → Type 0
+AreStreamsDecoded bytes output result =
     (command : Command) (source : Change) (held : Option (List ℕ)) (faults : ℕ)
     → IsHalt (HasSaidAll IsDecodeTurn bytes) (IsCommandStanding command) bytes (ends_of source output (untouched held faults)) result
 
@@ -95,10 +96,7 @@ pub record IsExecuted (words : List (List ℕ)) (ends : Ends) (result : Result �
   pub left : WasLeft ends.input input
   pub halt : IsHalt (IsAnswer words input) (IsStanding words) input ends result
   pub stop : IsOwnStop (refusal_of words) result
-  pub whole : result ≡ Ok 0 → IsUsedUp ends.input
+  pub whole : result ≡ Ok 0 → LeavesEnd (command_of words) ends.input
   pub most : TookAtMost (most_wanted (command_of words)) ends.input
-  pub kept : IsSome (refusal_of words) → Keeps ends.input.before ends.input.after
+  pub kept : IsUnread words → IsUntouched ends.input
   pub later : IsLater ends.notes
-
-abbrev pub IsExecutedQuietly : List (List ℕ) → Change → Change → Result ℕ Stop → Type 0
-IsExecutedQuietly words source output result = (held : Option (List ℕ)) (faults : ℕ) → IsExecuted words (ends_of source output (untouched held faults)) result

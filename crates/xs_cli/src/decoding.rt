@@ -1,7 +1,7 @@
-// Codestreams become raw pictures, one after the other: 'Command words'.
+// Codestreams become raw pictures, one after the other, or a capture does: 'Command words'.
 ghost use Rattle.std.specs.Prelude.{◌≡◌, ◌≢◌, ◌+◌, ◌-◌, ◌<◌, ◌≤◌, ◌^◌, ℕ, None, Some, IfErr, length, []};
 ghost use Rattle.xs_capture.specs.Pictures.{most_pictures};
-ghost use Rattle.xs_endings.specs.Ends.{IsLater, change_of};
+ghost use Rattle.xs_endings.specs.Ends.{IsLater, change_of, ends_of};
 ghost use Rattle.xs_endings.specs.Steps.{IsGiven};
 ghost use Rattle.xs_params.specs.Picture.{raw_bytes};
 ghost use Rattle.xs_markers.specs.Reading.{head_fault};
@@ -9,16 +9,16 @@ ghost use Rattle.xs_picture.specs.Faults.{stream_fault};
 ghost use Rattle.xs_params.specs.Accepted.{IsAccepted};
 ghost use Rattle.xs_params.specs.Geometry.{slice_count};
 ghost use Rattle.xs_words.specs.declared.command.Command.TheVariants as Commands;
-ghost use Rattle.xs_words.specs.declared.command.Form.TheVariants.{Xs};
 ghost use Rattle.xs_cli.specs.Decoded.{input_limit};
-ghost use Rattle.xs_cli.specs.Steps.{AreDecoded, IsBadEnd, IsCommandStop, IsDoneQuietly, IsNext, IsOwnNote, IsTold};
+ghost use Rattle.xs_cli.specs.Steps.{AreStreamsDecoded, IsBadEnd, IsCommandStop, IsDone, IsNext, IsOwnNote, IsTold};
 
 use crate::input::{DONE, MOST_PICTURES};
+use crate::receiving::Crew;
 use std::alloc::Global;
 use xs_endings::{Stop, give};
 use xs_faults::{HeadFault, SliceFault, StreamFault};
 use xs_geometry::Geometry;
-use xs_io::{Sink, Source, TakeFault, take_all};
+use xs_io::{Gate, Sink, Source, TakeFault, take_all};
 use xs_markers::{Header, read_header};
 use xs_notes::Note;
 use xs_params::Planes;
@@ -29,46 +29,49 @@ use xs_words::Form;
 /// The most bytes that an input of decoding may have.
 const INPUT_LIMIT: u64 = 1 << 30;
 
-/// Decodes the codestreams of the input. A capture is not decoded.
-pub fn decode<R: Source, W: Sink>(
-    alloc: Global,
-    form: Form,
-    input: &mut R,
-    output: &mut W,
-) -> Result<u8, Stop>
-    ensures { (workers feeders : ℕ) → IsDoneQuietly (Commands.Decode form workers feeders)
-        (change_of (R.left input.old) (R.left input.new) (R.faults input.old) (R.faults input.new))
-        (change_of (W.held output.old) (W.held output.new) (W.faults output.old) (W.faults output.new)) result }
-{
-    match form {
-        Form::Xs => decode_streams(alloc, input, output),
-        // No words ask for it.
-        Form::Rtp => Err(Stop::Memory),
-    }
+/// How the input is decoded.
+#[derive(Clone, Copy)]
+pub struct Decoding {
+    pub form: Form,
+    pub crew: Crew,
 }
 
-/// Reads the whole input, and decodes the codestreams in it. Past its limit one byte is taken.
-fn decode_streams<R: Source, W: Sink>(
-    alloc: Global,
-    input: &mut R,
-    output: &mut W,
-) -> Result<u8, Stop>
-    ensures { (workers feeders : ℕ) → IsDoneQuietly (Commands.Decode Xs workers feeders)
-        (change_of (R.left input.old) (R.left input.new) (R.faults input.old) (R.faults input.new))
-        (change_of (W.held output.old) (W.held output.new) (W.faults output.old) (W.faults output.new)) result }
-{
-    match take_all(alloc, input, INPUT_LIMIT) {
-        Ok(bytes) => streams(alloc, bytes.as_slice(), output),
-        Err(TakeFault::Limit) => Err(Stop::Told(Note::InputLimit { limit: INPUT_LIMIT })),
-        Err(TakeFault::Failed) => Err(Stop::ReadFault),
-        Err(TakeFault::Memory) => Err(Stop::Memory),
+impl Decoding {
+    /// Reads the whole input, and decodes the codestreams in it or receives the pictures of the capture that it is. Past its
+    /// limit one byte is taken.
+    pub fn decode<R: Source, W: Sink, N: Sink, G: Gate>(
+        &self,
+        alloc: Global,
+        input: &mut R,
+        output: &mut W,
+        notes: &mut N,
+        gate: &G,
+    ) -> Result<u8, Stop>
+        requires some { 1 ≤ self.now.crew.feeders }
+        requires few { self.now.crew.feeders ≤ 8 }
+        ensures { IsDone (Commands.Decode self.now.form self.now.crew.workers self.now.crew.feeders) (ends_of
+            (change_of (R.left input.old) (R.left input.new) (R.faults input.old) (R.faults input.new))
+            (change_of (W.held output.old) (W.held output.new) (W.faults output.old) (W.faults output.new))
+            (change_of (N.held notes.old) (N.held notes.new) (N.faults notes.old) (N.faults notes.new))) result }
+    {
+        match take_all(alloc, input, INPUT_LIMIT) {
+            Ok(bytes) => match self.form {
+                Form::Xs => streams(alloc, bytes.as_slice(), output),
+                Form::Rtp => self
+                    .crew
+                    .receive(alloc, bytes.as_slice(), output, notes, gate),
+            },
+            Err(TakeFault::Limit) => Err(Stop::Told(Note::InputLimit { limit: INPUT_LIMIT })),
+            Err(TakeFault::Failed) => Err(Stop::ReadFault),
+            Err(TakeFault::Memory) => Err(Stop::Memory),
+        }
     }
 }
 
 /// Decodes codestreams one after the other, and writes each picture as it comes.
 fn streams<W: Sink>(alloc: Global, bytes: &[u8], output: &mut W) -> Result<u8, Stop>
     requires { length bytes.now ≤ input_limit }
-    ensures decoded { AreDecoded bytes.now (change_of (W.held output.old) (W.held output.new) (W.faults output.old) (W.faults output.new)) result }
+    ensures decoded { AreStreamsDecoded bytes.now (change_of (W.held output.old) (W.held output.new) (W.faults output.old) (W.faults output.new)) result }
     ensures stop { IsCommandStop result }
 {
     let mut place = 0;

@@ -1,21 +1,28 @@
 // Raw pictures become codestreams, one after the other: 'Command words'.
-ghost use Rattle.std.specs.Prelude.{◌≡◌, ◌≢◌, ◌+◌, ◌*◌, ◌%◌, ◌<◌, ◌≤◌, ◌^◌, ℕ, [], IfErr, length};
+ghost use Rattle.std.specs.Prelude.{◌≡◌, ◌≢◌, ◌+◌, ◌*◌, ◌%◌, ◌<◌, ◌≤◌, ◌^◌, ℕ, [], IfErr, length, flat_map, All, IfOk};
+ghost use Rattle.xs_params.specs.Check.{AreInRange};
 ghost use Rattle.xs_params.specs.Picture.{raw_size};
 ghost use Rattle.xs_words.specs.declared.command.Command.TheVariants as Commands;
+ghost use Rattle.xs_words.specs.declared.command.Form.TheVariants as Forms;
 ghost use Rattle.xs_endings.specs.Ends.{IsLater, change_of};
+ghost use Rattle.xs_endings.specs.Steps.{IsGiven};
 ghost use Rattle.xs_endings.specs.Turns.{IsTaken, Writes};
 ghost use Rattle.xs_params.specs.Stream.{stream_bytes};
+ghost use Rattle.xs_capture.specs.Capture.{IsShort, frame};
 ghost use Rattle.xs_capture.specs.Pictures.{most_pictures};
+ghost use Rattle.xs_pack.specs.Datagrams.{IsPackable};
 ghost use Rattle.xs_cli.specs.Encoded.{encode_turn, written_as};
-ghost use Rattle.xs_cli.specs.Places.{IsStreamOf, before_of};
+ghost use Rattle.xs_cli.specs.Places.{IsStreamAt, before_of};
 ghost use Rattle.xs_cli.specs.Steps.{IsDoneQuietly, IsOwnNote};
 
 use crate::input::{DONE, MOST_PICTURES, read};
 use std::alloc::Global;
+use xs_capture::write_frame;
 use xs_endings::{Stop, give};
 use xs_faults::SliceRefusal;
-use xs_io::{Sink, Source};
+use xs_io::{Octets, Sink, Source};
 use xs_notes::Note;
+use xs_pack::{Datagrams, pack};
 use xs_params::{Checked, Stream};
 use xs_picture::encode_picture;
 use xs_samples::{SampleFault, raw_size, read_picture};
@@ -112,7 +119,9 @@ fn stream_of(alloc: Global, settings: &Checked, place: Place, bytes: &[u8]) -> R
     requires small { place.byte ≤ 2 ^ 36 }
     requires some { bytes.now ≢ [] }
     requires most { length bytes.now ≤ raw_size settings.now.shape }
-    ensures stream { IsStreamOf settings.now (before_of place) bytes.now result }
+    ensures stream { IsStreamAt settings.now (before_of place) bytes.now result }
+    ensures packable { IfOk result (IsPackable settings.now) }
+    ensures range { AreInRange settings.now }
     ensures own { IfErr result IsOwnNote }
 {
     let shape = &settings.settings().shape;
@@ -142,7 +151,7 @@ fn stream_of(alloc: Global, settings: &Checked, place: Place, bytes: &[u8]) -> R
     }
 }
 
-/// Writes a codestream as one piece, or its packets as one piece each.
+/// Writes a codestream as one piece, or each of its packets as one.
 fn write<W: Sink>(
     alloc: Global,
     settings: &Checked,
@@ -151,14 +160,16 @@ fn write<W: Sink>(
     stream: &Stream,
     output: &mut W,
 ) -> Result<u32, Stop>
+    requires few { place.picture < most_pictures }
+    requires packable { IsPackable settings.now stream.now }
+    requires range { AreInRange settings.now }
     ensures taken { IsTaken (change_of (W.held output.old) (W.held output.new) (W.faults output.old) (W.faults output.new)) (written_as settings.now form (before_of place) stream.now) result }
     ensures own { IfErr result IsOwnNote }
     ensures later { IsLater (change_of (W.held output.old) (W.held output.new) (W.faults output.old) (W.faults output.new)) }
 {
     match form {
         Form::Xs => write_stream(alloc, stream, output),
-        // No words ask for it.
-        Form::Rtp => Err(Stop::Memory),
+        Form::Rtp => write_packets(alloc, settings, place, stream, output),
     }
 }
 
@@ -173,4 +184,47 @@ fn write_stream<W: Sink>(alloc: Global, stream: &Stream, output: &mut W) -> Resu
         Ok(()) => Ok(0),
         Err(why) => Err(why),
     }
+}
+
+/// Writes the packets of a codestream, each after its length, and answers their number.
+fn write_packets<W: Sink>(
+    alloc: Global,
+    settings: &Checked,
+    place: Place,
+    stream: &Stream,
+    output: &mut W,
+) -> Result<u32, Stop>
+    requires few { place.picture < most_pictures }
+    requires packable { IsPackable settings.now stream.now }
+    requires range { AreInRange settings.now }
+    ensures taken { IsTaken (change_of (W.held output.old) (W.held output.new) (W.faults output.old) (W.faults output.new)) (written_as settings.now Forms.Rtp (before_of place) stream.now) result }
+    ensures own { IfErr result IsOwnNote }
+    ensures later { IsLater (change_of (W.held output.old) (W.held output.new) (W.faults output.old) (W.faults output.new)) }
+{
+    let packets = pack(alloc, stream, settings, place.picture, place.sequence)?;
+    match give_packets(alloc, &packets, output) {
+        Ok(()) => Ok(packets.len()),
+        Err(why) => Err(why),
+    }
+}
+
+/// Gives packets one after the other.
+fn give_packets<W: Sink>(alloc: Global, packets: &Datagrams, output: &mut W) -> Result<(), Stop>
+    requires short { All IsShort packets.now }
+    ensures { IsGiven (change_of (W.held output.old) (W.held output.new) (W.faults output.old) (W.faults output.new)) (flat_map frame packets.now) result }
+{
+    'giving: for number in 0..packets.len() {
+        give_packet(alloc, packets.get(number), output)?;
+    }
+    Ok(())
+}
+
+/// Gives a packet after its length, as one piece.
+fn give_packet<W: Sink>(alloc: Global, packet: &[u8], output: &mut W) -> Result<(), Stop>
+    requires short { IsShort packet.now }
+    ensures { IsGiven (change_of (W.held output.old) (W.held output.new) (W.faults output.old) (W.faults output.new)) (frame packet.now) result }
+{
+    let mut bytes = Octets::new(alloc);
+    write_frame(alloc, &mut bytes, packet)?;
+    give(output, bytes.as_slice())
 }

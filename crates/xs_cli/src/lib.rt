@@ -3,14 +3,19 @@
 
 ghost use Rattle.xs_cli.specs.Laws.{AnswersExist};
 
+mod captures;
 mod decoding;
 mod encoding;
 mod input;
+mod receiving;
 mod start;
 mod top;
+mod trial;
 
+pub use captures::{captures_answered, one_captured, sent_is_written};
 pub use start::program;
 pub use top::run;
+pub use trial::{one_trial, trials_answered};
 
 /// Whatever the words are, each input of bytes has an answer.
 #[tactic(auto, using(crate::proofs::Done::has_answer))]

@@ -4,10 +4,12 @@ ghost use Rattle.std.specs.String.{string_bytes};
 ghost use Rattle.xs_endings.specs.Ends.{change_of, ends_of};
 ghost use Rattle.xs_cli.specs.Answer.{refusal_note};
 ghost use Rattle.xs_cli.specs.Run.{IsRun};
-ghost use Rattle.xs_cli.specs.Steps.{IsExecutedQuietly};
+ghost use Rattle.xs_cli.specs.Steps.{IsExecuted};
 
-use crate::decoding::decode;
+use crate::decoding::Decoding;
 use crate::encoding::encode;
+use crate::receiving::Crew;
+use crate::trial::trial;
 use std::alloc::Global;
 use std::thread::Threads;
 use xs_endings::{Stop, close};
@@ -19,7 +21,7 @@ use xs_words::{Command, Refusal, command_of};
 /// out of range, 3 for an input of another form, 4 for a slice over its share, 5 for a picture of which packets are
 /// missing, 6 for a damaged one, 7 where the input failed, 8 where the output or the notes failed, 9 where memory was
 /// wanting. The words are those after the program's name. Each codestream, packet, raw picture and note is given as one
-/// piece, as soon as it is there. The call always returns. No thread starts, and the gate is not asked.
+/// piece, as soon as it is there. The call always returns. No thread starts.
 pub fn run<T: Threads + Sync, R: Source, W: Sink, N: Sink, G: Gate>(
     threads: &T,
     alloc: Global,
@@ -34,24 +36,40 @@ pub fn run<T: Threads + Sync, R: Source, W: Sink, N: Sink, G: Gate>(
         (change_of (W.held output.old) (W.held output.new) (W.faults output.old) (W.faults output.new))
         (change_of (N.held notes.old) (N.held notes.new) (N.faults notes.old) (N.faults notes.new))) result }
 {
-    let done = execute(alloc, words, input, output);
+    let done = execute(alloc, words, input, output, notes, gate);
     close(alloc, notes, done)
 }
 
 /// Reads the words and does what they say, but for the last note.
-fn execute<R: Source, W: Sink>(
+fn execute<R: Source, W: Sink, N: Sink, G: Gate>(
     alloc: Global,
     words: &[String],
     input: &mut R,
     output: &mut W,
+    notes: &mut N,
+    gate: &G,
 ) -> Result<u8, Stop>
-    ensures { IsExecutedQuietly (map string_bytes words.now)
+    ensures { IsExecuted (map string_bytes words.now) (ends_of
         (change_of (R.left input.old) (R.left input.new) (R.faults input.old) (R.faults input.new))
-        (change_of (W.held output.old) (W.held output.new) (W.faults output.old) (W.faults output.new)) result }
+        (change_of (W.held output.old) (W.held output.new) (W.faults output.old) (W.faults output.new))
+        (change_of (N.held notes.old) (N.held notes.new) (N.faults notes.old) (N.faults notes.new))) result }
 {
     match command_of(alloc, words) {
         Ok(Command::Encode { settings, form }) => encode(alloc, &settings, form, input, output),
-        Ok(Command::Decode { form, .. }) => decode(alloc, form, input, output),
+        Ok(
+            Command::Decode {
+                form,
+                workers,
+                feeders,
+            },
+        ) => {
+            let decoding = Decoding {
+                form,
+                crew: Crew { workers, feeders },
+            };
+            decoding.decode(alloc, input, output, notes, gate)
+        }
+        Ok(Command::Trial { settings, seed }) => trial(alloc, &settings, seed, output, gate),
         Err(refusal) => Err(Stop::Told(note_of(refusal))),
     }
 }

@@ -4,6 +4,9 @@
 // the plain picture, with the bytes A as their header and that of their packet, B behind the counts and C behind the data; a
 // word is what `push_named` says. `13=1` sets the byte at a place, `6+abcd` puts bytes in before it, `<20` keeps the bytes before
 // a place, and `^3` makes what stands before stand three times.
+//
+// A number is the frame of that number of the grey capture, which is the deep picture in packets of 64 bytes, and `2.1` is frame
+// 2 of the same as picture 1.
 use std::alloc::Global;
 use xs_io::{Memory, Octets};
 
@@ -48,6 +51,13 @@ const DEEP_PRECINCT: &str = "00003c0000aaa8";
 const DEEP_LAST: &str = "0000120000a080";
 
 const DEEP_PACKET: &str = "000000000080";
+
+// Where the pieces of the deep picture begin, and what the headers of their payloads are.
+const PIECES: [usize; 8] = [0, 58, 122, 186, 250, 314, 332, 365];
+
+const PAYLOADS: [u32; 7] = [
+    0xe03ff800, 0xc0000000, 0xc0000001, 0xc0000002, 0xc0000003, 0xe0000004, 0xe0000800,
+];
 
 /// The number that a text spells, and 0 where it spells none.
 pub fn number(text: &str) -> usize {
@@ -158,9 +168,53 @@ fn push_numbers(bytes: &mut Vec<u8>, numbers: &[u8]) -> Result<(), Memory> {
     bytes.extend_from_slice(numbers).map_err(|_| Memory)
 }
 
+// The headers of a frame: its length, that of RTP, and that of the payload.
+fn push_heads(bytes: &mut Vec<u8>, frame: usize, picture: u32, size: usize) -> Result<(), Memory> {
+    let frame = frame % 7;
+    let sequence = (picture % 256 * 7 + frame as u32) as u16;
+    let time = picture % 65536 * 1500;
+    let payload = PAYLOADS[frame].wrapping_add(picture % 32 * 4194304);
+    push_numbers(bytes, &((size % 65000 + 16) as u16).to_be_bytes())?;
+    push_numbers(bytes, &[0x80, if frame == 6 { 0xe0 } else { 0x60 }])?;
+    push_numbers(bytes, &sequence.to_be_bytes())?;
+    push_numbers(bytes, &time.to_be_bytes())?;
+    push_numbers(bytes, &[0, 0, 0, 1])?;
+    push_numbers(bytes, &payload.to_be_bytes())
+}
+
+// A frame of the grey capture, of a picture.
+fn push_frame(bytes: &mut Vec<u8>, deep: &[u8], frame: usize, picture: u32) -> Result<(), Memory> {
+    let frame = frame % 7;
+    let (from, to) = (PIECES[frame], PIECES[frame + 1]);
+    push_heads(bytes, frame, picture, to.saturating_sub(from))?;
+    for place in from..to {
+        if place < deep.len() {
+            bytes.push(deep[place]).map_err(|_| Memory)?;
+        }
+    }
+    Ok(())
+}
+
+// The frames from one to below another, of pictures from one to below another.
+fn push_frames(
+    alloc: Global,
+    bytes: &mut Vec<u8>,
+    frames: (usize, usize),
+    pictures: (u32, u32),
+) -> Result<(), Memory> {
+    let mut deep = Vec::new(alloc);
+    push_deep(&mut deep)?;
+    for picture in pictures.0..pictures.1 {
+        for frame in frames.0..frames.1 {
+            push_frame(bytes, deep.as_slice(), frame, picture)?;
+        }
+    }
+    Ok(())
+}
+
 // What a word names: the header of the plain picture; the codestream of the black picture, of the plain one, of the same with
-// raw counts, of the wide one or the deep one.
-fn push_named(bytes: &mut Vec<u8>, word: &str) -> Result<(), Memory> {
+// raw counts, of the wide one or the deep one; the grey capture; or the first frames of so many pictures.
+fn push_named(alloc: Global, bytes: &mut Vec<u8>, word: &str, picture: u32) -> Result<(), Memory> {
     match word {
         "header" => push_hex(bytes, HEADER),
         "black" => push_black(bytes),
@@ -172,6 +226,8 @@ fn push_named(bytes: &mut Vec<u8>, word: &str) -> Result<(), Memory> {
         "raw" => push_raw(bytes),
         "wide" => push_wide(bytes),
         "deep" => push_deep(bytes),
+        "grey" => push_frames(alloc, bytes, (0, 7), (picture, picture.saturating_add(1))),
+        "crowd" => push_frames(alloc, bytes, (0, 1), (0, picture)),
         _ => Ok(()),
     }
 }
@@ -203,6 +259,24 @@ fn repeat(alloc: Global, bytes: &mut Vec<u8>, times: usize) -> Result<(), Memory
     Ok(())
 }
 
+// A word or the number of a frame, and behind a point the number of a picture.
+fn push_word(alloc: Global, bytes: &mut Vec<u8>, part: &str) -> Result<(), Memory> {
+    let (word, picture) = part.split_once('.').unwrap_or((part, "0"));
+    let picture = picture.parse::<u32>().unwrap_or(0);
+    match word.parse::<usize>() {
+        Ok(frame) => {
+            let end = frame.saturating_add(1);
+            push_frames(
+                alloc,
+                bytes,
+                (frame, end),
+                (picture, picture.saturating_add(1)),
+            )
+        }
+        Err(_) => push_named(alloc, bytes, word, picture),
+    }
+}
+
 // Puts the bytes of a part behind the others, or changes those, where it names a place.
 fn push_part(alloc: Global, bytes: &mut Vec<u8>, part: &str) -> Result<(), Memory> {
     if let Some(digits) = part.strip_prefix('x') {
@@ -228,7 +302,7 @@ fn push_part(alloc: Global, bytes: &mut Vec<u8>, part: &str) -> Result<(), Memor
     }
     match part.split_once(':') {
         Some((count, parts)) => push_precincts(bytes, number(count), parts),
-        None => push_named(bytes, part),
+        None => push_word(alloc, bytes, part),
     }
 }
 

@@ -76,7 +76,7 @@ const DAMAGE: &str = "\
 | black 33=32 | 6 | | damaged picture 0 header unsupported qpih 2
 | black 38=9 | 6 | | damaged picture 0 header unsupported bc 9
 | black 34+ff1600040000 | 6 | | damaged picture 0 header segment ff16 34
-| black 34+ff12001a000000d700000000002000040000000401040814840010 34+00 | 6 | | damaged picture 0 header marker 00ff 34
+| black 34+ff12001a000000d700000000002000040000000401040814840010 61+00 | 6 | | damaged picture 0 header twice ff12
 | header <34 6+ff1300040811 | 6 | | damaged picture 0 header absent ff12
 | header <40 xff20 | 6 | | damaged picture 0 header absent ff14
 | black 53=1 | 6 | | damaged picture 0 slice 0 head

@@ -14,4 +14,10 @@ mod pictures;
 #[cfg(test)]
 mod rows;
 #[cfg(test)]
+mod rtp;
+#[cfg(test)]
+mod sent;
+#[cfg(test)]
+mod trial;
+#[cfg(test)]
 mod words;

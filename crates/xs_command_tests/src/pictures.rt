@@ -1,4 +1,4 @@
-// Pictures that are encoded and decoded: of every format, depth and number of levels, and with the most slices.
+// Pictures that are encoded and decoded in both forms: of every format, depth and number of levels, and with the most slices.
 use crate::rows::{Failing, run_on};
 use std::alloc::Global;
 use std::test::Fail;
@@ -88,7 +88,12 @@ fn difference(one: &[u8], other: &[u8], wide: bool) -> Option<u32> {
 }
 
 // The words of `encode` for a picture; uniform quantisation and the colour transform now and then.
-fn words_of(alloc: Global, levels: (u32, u32), picture: &Picture) -> Result<String, Memory> {
+fn words_of(
+    alloc: Global,
+    levels: (u32, u32),
+    picture: &Picture,
+    form: &str,
+) -> Result<String, Memory> {
     let (nlx, nly) = levels;
     let Picture {
         width,
@@ -108,28 +113,24 @@ fn words_of(alloc: Global, levels: (u32, u32), picture: &Picture) -> Result<Stri
         _ => "uniform",
     };
     format!(in alloc;
-        "encode --form xs --share 32000 --chunk 100 --nlx {nlx} --nly {nly} --width {width} --height {height} --slice {slice} --depth {depth} --format {format} --quant {choice}"
+        "encode --form {form} --share 32000 --chunk 100 --nlx {nlx} --nly {nly} --width {width} --height {height} --slice {slice} --depth {depth} --format {format} --quant {choice}"
     ).map_err(|_| Memory)
 }
 
-// How much a picture differs when it comes back from its codestream.
+// How much a picture differs when it comes back from its codestream or from its packets.
 fn comes_back<T: Threads + Sync>(
     threads: &T,
     alloc: Global,
     levels: (u32, u32),
     picture: Picture,
+    form: &str,
 ) -> Result<Option<u32>, Memory> {
-    let words = words_of(alloc, levels, &picture)?;
+    let words = words_of(alloc, levels, &picture, form)?;
     let given = raw_of(alloc, &picture)?;
     let encoded = run_on(threads, alloc, words.as_str(), given, Failing::none(alloc))?;
     let sent = Octets::from_slice(alloc, encoded.output.held())?;
-    let left = run_on(
-        threads,
-        alloc,
-        "decode --form xs",
-        sent,
-        Failing::none(alloc),
-    )?;
+    let words = format!(in alloc; "decode --form {form}").map_err(|_| Memory)?;
+    let left = run_on(threads, alloc, words.as_str(), sent, Failing::none(alloc))?;
     let given = raw_of(alloc, &picture)?;
     Ok(difference(left.output.held(), given.as_slice(), picture.depth > 8))
 }
@@ -162,6 +163,7 @@ fn come_back<T: Threads + Sync>(
     threads: &T,
     alloc: Global,
     levels: (u32, u32),
+    form: &str,
 ) -> Result<bool, Memory> {
     for (width, height, slice) in [(32, 4, 4), (33, 5, 1), (37, 10, 2), (65, 33, 3)] {
         for content in 0..3 {
@@ -174,7 +176,7 @@ fn come_back<T: Threads + Sync>(
                 depth,
                 content,
             };
-            match comes_back(threads, alloc, levels, picture)? {
+            match comes_back(threads, alloc, levels, picture, form)? {
                 Some(most) if most <= allowed(depth) => {}
                 _ => return Ok(false),
             }
@@ -188,7 +190,20 @@ fn pictures_of_every_kind_come_back(rt: HostRuntime) -> Result<(), Fail> {
     for across in 1..6 {
         for down in 0..3 {
             assert!(rt;
-                down > across || come_back(&rt, rt.alloc(), (across, down))?,
+                down > across || come_back(&rt, rt.alloc(), (across, down), "xs")?,
+                "{across} {down}"
+            );
+        }
+    }
+    Ok(())
+}
+
+#[test]
+fn pictures_of_every_kind_arrive(rt: HostRuntime) -> Result<(), Fail> {
+    for across in 1..6 {
+        for down in 0..3 {
+            assert!(rt;
+                down > across || come_back(&rt, rt.alloc(), (across, down), "rtp")?,
                 "{across} {down}"
             );
         }
@@ -207,6 +222,7 @@ fn picture_of_2047_slices_comes_back(rt: HostRuntime) -> Result<(), Fail> {
         depth: 8,
         content: 2,
     };
-    assert!(rt; comes_back(&rt, rt.alloc(), (1, 0), picture)? == Some(0));
+    assert!(rt; comes_back(&rt, rt.alloc(), (1, 0), picture, "xs")? == Some(0));
+    assert!(rt; comes_back(&rt, rt.alloc(), (1, 0), picture, "rtp")? == Some(0));
     Ok(())
 }

@@ -74,7 +74,7 @@ encode --width 32 --height 8188 --share 2098174 --format mono --nly 0 --chunk 81
 encode --width 32 --height 8188 --share 2098175 --format mono --nly 0 --chunk 8192 | | 2 | | setting share 2098175
 decode --feeders 0 | | 2 | | setting feeders 0
 decode --feeders 9 | | 2 | | setting feeders 9
-decode --form xs --feeders 8 --workers 16 | | 0 | |
+decode --feeders 8 --workers 16 | | 0 | |
 decode --workers 0 | | 2 | | setting workers 0
 decode --workers 17 --form xs | | 2 | | setting workers 17
 decode --feeders 9 --workers 260 | | 2 | | setting workers 260";
@@ -89,10 +89,10 @@ fn sizes_out_of_range_are_named(rt: HostRuntime) {
 const WORDS: &str = "\
 | 128*0 | 1 | | words 0
 | 128*0 @ @ @ 0 | 8 | |
-trial | 128*0 | 1 | | words 0
+live | 128*0 | 1 | | words 0
 --help | 128*0 | 1 | | words 0
 decode | | 0 | |
-decode --form rtp | | 1 | | words 2
+decode --form rtp | | 0 | |
 decode --form xs --workers 4 | | 0 | |
 decode --form | 128*0 | 1 | | words 2
 decode --form xs --form xs | 128*0 | 1 | | words 3
@@ -115,7 +115,7 @@ encode --mode stream | 128*0 | 1 | | words 1
 encode --port 5004 | 128*0 | 1 | | words 1
 encode --feeders 2 | 128*0 | 1 | | words 1
 encode --form pcap | 128*0 | 1 | | words 2
-encode --form rtp | 128*0 | 1 | | words 2
+encode --form rtp | 128*0 | 1 | | words 3
 encode --format 420 | 128*0 | 1 | | words 2
 encode --format 422 | 128*0 | 1 | | words 3
 encode --quant none | 128*0 | 1 | | words 2

@@ -10,8 +10,8 @@ pub record Said : Type 0 where
   pub notes : List Note
 
 -- a note, and no output
-abbrev pub refused : Note → Said
-refused why = record { out = []; notes = why ∷ [] }
+abbrev pub only_note : Note → Said
+only_note why = record { out = []; notes = why ∷ [] }
 
 -- the status that a note stands for; frames that were stepped over do no harm
 abbrev pub note_status : Note → ℕ
@@ -21,6 +21,8 @@ note_status (note.InputCut place) = 3
 note_status (note.InputSample place) = 3
 note_status (note.InputLimit limit) = 3
 note_status (note.InputPictures count) = 3
+note_status (note.InputMagic value) = 3
+note_status (note.InputLink value) = 3
 note_status (note.Budget picture slice size share) = 4
 note_status (note.MissingHeader picture) = 5
 note_status (note.MissingSlice picture slice) = 5

@@ -51,7 +51,9 @@ pub fn note_status(note: &Note) -> u8
         Note::InputCut { .. }
         | Note::InputSample { .. }
         | Note::InputLimit { .. }
-        | Note::InputPictures { .. } => 3,
+        | Note::InputPictures { .. }
+        | Note::InputMagic { .. }
+        | Note::InputLink { .. } => 3,
         Note::Budget { .. } => 4,
         Note::MissingHeader { .. } | Note::MissingSlice { .. } => 5,
         Note::DamagedHeader { .. } | Note::DamagedSlice { .. } | Note::DamagedLength { .. } => 6,

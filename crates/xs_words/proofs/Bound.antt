@@ -11,7 +11,7 @@ use Rattle.std.proofs.lemmas.Map.Steps.{length-le_from_distinct_below}
 use Rattle.std.proofs.lemmas.Option.{slice_get_past}
 use Rattle.std.proofs.lemmas.Slice.Eq.{bytes_eq-Decides}
 use Rattle.xs_lists.specs.Spelling.{upto}
-use Rattle.xs_words.specs.Table.{Row, decode_rows, encode_rows, required}
+use Rattle.xs_words.specs.Table.{Row, decode_rows, encode_rows, trial_rows, required}
 use Rattle.xs_words.specs.Words.{bad_place, is_bad_name, is_bad_value, is_name_at, is_name_place, is_named_before, row_named, table_of, word_in}
 use Rattle.xs_words.proofs.Places.{stop}
 use Rattle.xs_words.proofs.BadPlace.{good_before}
@@ -120,12 +120,13 @@ names_apart words table t j k above below same =
 
 -- each table has at most twenty rows
 few_rows : (word : List ℕ) (table : List Row) → table_of word ≡ Some table → length table ≤ 20
-few_rows word table = by_name (bytes_eq word (codes "encode")) (bytes_eq word (codes "decode"))
+few_rows word table = by_name (bytes_eq word (codes "encode")) (bytes_eq word (codes "decode")) (bytes_eq word (codes "trial"))
   where
-    by_name : (encode decode : Bool) → cond encode (Some encode_rows) (cond decode (Some decode_rows) None) ≡ Some table → length table ≤ 20
-    by_name true decode e = let same : encode_rows ≡ table = cc in omega (arith, ap length same)
-    by_name false true e = let same : decode_rows ≡ table = cc in omega (arith, ap length same)
-    by_name false false e = absurd (cc)
+    by_name : (encode decode trial : Bool) → cond encode (Some encode_rows) (cond decode (Some decode_rows) (cond trial (Some trial_rows) None)) ≡ Some table → length table ≤ 20
+    by_name true decode trial e = let same : encode_rows ≡ table = cc in omega (arith, ap length same)
+    by_name false true trial e = let same : decode_rows ≡ table = cc in omega (arith, ap length same)
+    by_name false false true e = let same : trial_rows ≡ table = cc in omega (arith, ap length same)
+    by_name false false false e = absurd (cc)
 
 near-where : (words : List (List ℕ)) (table : List Row) → table_of (word_in words 0) ≡ Some table → (found : Option ℕ) → bad_place words ≡ found → IfSome found (λ place. place ≤ 41)
 near-where words table t None e = tt

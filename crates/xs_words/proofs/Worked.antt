@@ -3,7 +3,7 @@ use Rattle.std.proofs.Common.{◌≡◌, refl, List, ℕ, [], ◌∷◌}
 use Rattle.std.specs.Prelude.{codes, None, Some}
 use Rattle.xs_params.specs.declared.settings.Field.TheVariants as setting
 use Rattle.xs_words.specs.declared.command.Refusal.TheVariants as refusal
-use Rattle.xs_words.specs.declared.command.Form.TheVariants.{Xs}
+use Rattle.xs_words.specs.declared.command.Form.TheVariants.{Rtp, Xs}
 use Rattle.xs_words.specs.declared.command.Command.TheVariants.{Decode}
 use Rattle.xs_words.specs.Refusal.{refusal_of}
 use Rattle.xs_words.specs.Words.{bad_place}
@@ -80,5 +80,5 @@ workers_before_feeders = refl
 decode_xs : command_of (codes "decode" ∷ codes "--feeders" ∷ codes "3" ∷ codes "--form" ∷ codes "xs" ∷ []) ≡ Decode Xs 4 3
 decode_xs = refl
 
-decode_plain : command_of (codes "decode" ∷ []) ≡ Decode Xs 4 2
+decode_plain : command_of (codes "decode" ∷ []) ≡ Decode Rtp 4 2
 decode_plain = refl

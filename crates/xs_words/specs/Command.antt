@@ -1,5 +1,5 @@
 -- What a command asks for: 'Command words'. The numbers of settings may be too large for their fields.
-use Rattle.std.specs.Prelude.{ℕ, Bool, ◌≤◌, ⊤, if◌then◌else◌, None, List, [], codes, bytes_eq}
+use Rattle.std.specs.Prelude.{◌≡◌, ℕ, Bool, false, ◌<◌, ◌≤◌, ◌^◌, ⊤, if◌then◌else◌, None, List, [], codes, bytes_eq}
 use Rattle.xs_layout.specs.Limits.{most_feeders, most_workers}
 use Rattle.xs_layout.specs.declared.Format.{Format}
 use Rattle.xs_layout.specs.declared.Format.TheVariants.{Mono, C422, C444}
@@ -11,7 +11,7 @@ use Rattle.xs_words.specs.Words.{decimal_value, value_of, word_in}
 use Rattle.xs_words.specs.declared.command.Form.{Form}
 use Rattle.xs_words.specs.declared.command.Form.TheVariants.{Rtp, Xs}
 use Rattle.xs_words.specs.declared.command.Command.{Command}
-use Rattle.xs_words.specs.declared.command.Command.TheVariants.{Encode, Decode}
+use Rattle.xs_words.specs.declared.command.Command.TheVariants.{Encode, Decode, Trial}
 
 -- the number that an option is given, or has by default
 abbrev pub given_number : List (List ℕ) → List ℕ → ℕ
@@ -61,13 +61,46 @@ settings_of words = record {
   port = 5004;
 }
 
+-- the settings of a trial: those that have no words of it are the defaults of encoding
+abbrev pub trial_settings_of : List (List ℕ) → Settings
+trial_settings_of words = record {
+  shape = record {
+    width = given_number words (codes "--width");
+    height = given_number words (codes "--height");
+    format = C422;
+    depth = 8;
+  };
+  bits = 20;
+  nlx = 5;
+  nly = 2;
+  hsl = 4;
+  colour = false;
+  quant = Uniform;
+  signs_apart = false;
+  weights = None;
+  share = given_number words (codes "--share");
+  fill = false;
+  chunk = 1400;
+  mode = Slice;
+  payload_type = 96;
+  ssrc = 1;
+  first_timestamp = 0;
+  step = 1500;
+  boxes = [];
+  workers = given_number words (codes "--workers");
+  feeders = given_number words (codes "--feeders");
+  port = 5004;
+}
+
 -- what words that are a command ask for
 abbrev pub command_of : List (List ℕ) → Command
 command_of words =
     if bytes_eq (word_in words 0) (codes "encode") then Encode (settings_of words) (form_of words)
-    else Decode (form_of words) (given_number words (codes "--workers")) (given_number words (codes "--feeders"))
+    else if bytes_eq (word_in words 0) (codes "decode") then Decode (form_of words) (given_number words (codes "--workers")) (given_number words (codes "--feeders"))
+    else Trial (trial_settings_of words) (given_number words (codes "--seed"))
 
--- what a decoder is asked for is in range; of an encoder the settings say so themselves
-abbrev pub HasThreads : Command → Type 0
-HasThreads (Encode settings form) = ⊤
-HasThreads (Decode form workers feeders) = ((1 ≤ workers) × (workers ≤ most_workers)) × (1 ≤ feeders) × (feeders ≤ most_feeders)
+-- what a decoder is asked for is in range, and a trial has short packets and no boxes; of an encoder the settings say so themselves
+abbrev pub IsSound : Command → Type 0
+IsSound (Encode settings form) = ⊤
+IsSound (Decode form workers feeders) = ((1 ≤ workers) × (workers ≤ most_workers)) × (1 ≤ feeders) × (feeders ≤ most_feeders)
+IsSound (Trial settings seed) = (settings.boxes ≡ []) × (settings.chunk < 2 ^ 11)

@@ -3,7 +3,7 @@ use Rattle.std.specs.Prelude.{ℕ, ◌^◌, nat_lt, if◌then◌else◌}
 use Rattle.xs_params.specs.declared.settings.Settings.{Settings}
 use Rattle.xs_params.specs.declared.settings.Setting.{Setting}
 use Rattle.xs_params.specs.declared.settings.Field.{Field}
-use Rattle.xs_params.specs.declared.settings.Field.TheVariants.{Depth, Bits, Nlx, Nly, Hsl, PayloadType, Workers}
+use Rattle.xs_params.specs.declared.settings.Field.TheVariants.{Depth, Bits, Nlx, Nly, Hsl, PayloadType, Workers, Feeders}
 
 -- the number, or else another where it has more than so many bits
 abbrev pub fitting : ℕ → ℕ → ℕ → ℕ
@@ -18,6 +18,7 @@ narrowed s = record s {
   hsl = fitting 16 0 s.hsl;
   payload_type = fitting 8 255 s.payload_type;
   workers = fitting 8 255 s.workers;
+  feeders = fitting 8 255 s.feeders;
 }
 
 -- the value of a setting as it was asked for, where the check was of the narrowed settings
@@ -29,6 +30,7 @@ value_asked s Nly value = s.nly
 value_asked s Hsl value = s.hsl
 value_asked s PayloadType value = s.payload_type
 value_asked s Workers value = s.workers
+value_asked s Feeders value = s.feeders
 value_asked s _ value = value
 
 abbrev pub as_asked : Settings → Setting → Setting

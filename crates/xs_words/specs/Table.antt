@@ -42,13 +42,24 @@ encode_rows =
     ∷ number (codes "--ssrc") (codes "1")
     ∷ number (codes "--time") (codes "0")
     ∷ number (codes "--step") (codes "1500")
-    ∷ choice (codes "--form") (codes "xs" ∷ []) (codes "xs")
+    ∷ choice (codes "--form") (codes "rtp" ∷ codes "xs" ∷ []) (codes "rtp")
     ∷ number (codes "--workers") (codes "4")
+    ∷ []
+
+-- all else is as the defaults of encoding
+abbrev pub trial_rows : List Row
+trial_rows =
+    number (codes "--seed") (codes "1")
+    ∷ number (codes "--width") (codes "256")
+    ∷ number (codes "--height") (codes "128")
+    ∷ number (codes "--share") (codes "4000")
+    ∷ number (codes "--workers") (codes "4")
+    ∷ number (codes "--feeders") (codes "2")
     ∷ []
 
 abbrev pub decode_rows : List Row
 decode_rows =
-    choice (codes "--form") (codes "xs" ∷ []) (codes "xs")
+    choice (codes "--form") (codes "rtp" ∷ codes "xs" ∷ []) (codes "rtp")
     ∷ number (codes "--workers") (codes "4")
     ∷ number (codes "--feeders") (codes "2")
     ∷ []

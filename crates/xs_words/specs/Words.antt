@@ -6,14 +6,14 @@ use Rattle.std.specs.Str.{all_ascii_digits}
 use Rattle.std.specs.Str.Parse.{digits_value}
 use Rattle.xs_lists.specs.First.{first_of}
 use Rattle.xs_lists.specs.Spelling.{upto}
-use Rattle.xs_words.specs.Table.{Kind, Number, Choice, Row, encode_rows, decode_rows}
+use Rattle.xs_words.specs.Table.{Kind, Number, Choice, Row, encode_rows, decode_rows, trial_rows}
 
 abbrev pub word_in : List (List ℕ) → ℕ → List ℕ
 word_in words place = slice_index_or words place []
 
 -- the table of a command
 abbrev pub table_of : List ℕ → Option (List Row)
-table_of word = if bytes_eq word (codes "encode") then Some encode_rows else if bytes_eq word (codes "decode") then Some decode_rows else None
+table_of word = if bytes_eq word (codes "encode") then Some encode_rows else if bytes_eq word (codes "decode") then Some decode_rows else if bytes_eq word (codes "trial") then Some trial_rows else None
 
 -- a number: one to ten decimal digits, and a value of 32 bits
 abbrev pub decimal_value : List ℕ → ℕ

@@ -4,12 +4,12 @@ ghost use Rattle.std.specs.Result.{result_err};
 ghost use Rattle.std.specs.String.{string_bytes};
 ghost use Rattle.xs_lists.specs.First.{first_of};
 ghost use Rattle.xs_params.specs.Check.{setting_refusals, thread_refusals};
-ghost use Rattle.xs_words.specs.Command.{HasThreads, command_of, form_of, format_of, given_number, is_given, quant_of, settings_of};
+ghost use Rattle.xs_words.specs.Command.{IsSound, command_of, form_of, format_of, given_number, is_given, quant_of, settings_of, trial_settings_of};
 ghost use Rattle.xs_words.specs.Narrow.{as_asked, fitting, narrowed};
 ghost use Rattle.xs_words.specs.Refusal.{refusal_of, refused_settings};
-ghost use Rattle.xs_words.specs.Table.{decode_rows, encode_rows};
+ghost use Rattle.xs_words.specs.Table.{decode_rows, encode_rows, trial_rows};
 ghost use Rattle.xs_words.specs.Words.{bad_place, is_number, is_numeric, table_of, value_of, word_in};
-ghost use Rattle.xs_words.specs.declared.command.Command.TheVariants.{Encode, Decode};
+ghost use Rattle.xs_words.specs.declared.command.Command.TheVariants.{Encode, Decode, Trial};
 
 use crate::grammar::{bad_place, value_of, word_in};
 use crate::option::number;
@@ -42,6 +42,11 @@ pub enum Command {
         workers: u32,
         feeders: u32,
     },
+    /// A picture made of a number is to be encoded, sent and received.
+    Trial {
+        settings: Checked,
+        seed: u32,
+    },
 }
 
 /// Why a command is refused.
@@ -59,7 +64,7 @@ pub enum Refusal {
 pub fn command_of(alloc: Global, words: &[String]) -> Result<Command, Refusal>
     ensures refused { result_err result ≡ refusal_of (map string_bytes words.now) }
     ensures asked { IfOk result (λ command. command ≡ command_of (map string_bytes words.now)) }
-    ensures threads { IfOk result HasThreads }
+    ensures sound { IfOk result IsSound }
 {
     if let Some(place) = bad_place(words) {
         return Err(Refusal::Words {
@@ -77,11 +82,12 @@ fn asked(alloc: Global, words: &[String]) -> Result<Command, Setting>
     requires whole { bad_place (map string_bytes words.now) ≡ None }
     ensures refused { result_err result ≡ first_of (refused_settings (command_of (map string_bytes words.now))) }
     ensures asked { IfOk result (λ command. command ≡ command_of (map string_bytes words.now)) }
-    ensures threads { IfOk result HasThreads }
+    ensures sound { IfOk result IsSound }
 {
     match word_in(words, 0) {
         "encode" => encoding(alloc, words),
-        _ => decoding(words),
+        "decode" => decoding(words),
+        _ => trying(alloc, words),
     }
 }
 
@@ -99,6 +105,92 @@ fn encoding(alloc: Global, words: &[String]) -> Result<Command, Setting>
         }),
         Err(setting) => Err(as_asked(words, setting)),
     }
+}
+
+/// What words of `trial` ask for.
+fn trying(alloc: Global, words: &[String]) -> Result<Command, Setting>
+    requires trial { table_of (word_in (map string_bytes words.now) 0) ≡ Some trial_rows }
+    requires whole { bad_place (map string_bytes words.now) ≡ None }
+    ensures refused { result_err result ≡ first_of (setting_refusals (trial_settings_of (map string_bytes words.now))) }
+    ensures asked { IfOk result (λ command. command ≡ Trial (trial_settings_of (map string_bytes words.now)) (given_number (map string_bytes words.now) (codes "--seed"))) }
+{
+    match trial_settings_of(alloc, words).check() {
+        Ok(settings) => Ok(Command::Trial {
+            settings,
+            seed: trial_number(words, "--seed"),
+        }),
+        Err(setting) => Err(trial_as_asked(words, setting)),
+    }
+}
+
+/// The settings that words of `trial` ask for. A number that its field has no room for becomes one that is refused in the
+/// same place.
+fn trial_settings_of(alloc: Global, words: &[String]) -> Settings
+    requires trial { table_of (word_in (map string_bytes words.now) 0) ≡ Some trial_rows }
+    requires whole { bad_place (map string_bytes words.now) ≡ None }
+    ensures { result ≡ narrowed (trial_settings_of (map string_bytes words.now)) }
+{
+    Settings {
+        shape: Shape {
+            width: trial_number(words, "--width"),
+            height: trial_number(words, "--height"),
+            format: Format::C422,
+            depth: 8,
+        },
+        bits: 20,
+        nlx: 5,
+        nly: 2,
+        hsl: 4,
+        colour: false,
+        quant: Quant::Uniform,
+        signs_apart: false,
+        weights: None,
+        share: trial_number(words, "--share"),
+        fill: false,
+        chunk: 1400,
+        mode: Mode::Slice,
+        payload_type: 96,
+        ssrc: 1,
+        first_timestamp: 0,
+        step: 1500,
+        boxes: Octets::new(alloc),
+        workers: u8::try_from(trial_number(words, "--workers")).unwrap_or(u8::MAX),
+        feeders: u8::try_from(trial_number(words, "--feeders")).unwrap_or(u8::MAX),
+        port: 5004,
+    }
+}
+
+/// A refused setting of `trial` with the value that was asked for.
+fn trial_as_asked(words: &[String], setting: Setting) -> Setting
+    requires trial { table_of (word_in (map string_bytes words.now) 0) ≡ Some trial_rows }
+    requires whole { bad_place (map string_bytes words.now) ≡ None }
+    ensures { result ≡ as_asked (trial_settings_of (map string_bytes words.now)) setting }
+{
+    let value = match setting.field {
+        Field::Depth => 8,
+        Field::Bits => 20,
+        Field::Nlx => 5,
+        Field::Nly => 2,
+        Field::Hsl => 4,
+        Field::PayloadType => 96,
+        Field::Workers => u64::from(trial_number(words, "--workers")),
+        Field::Feeders => u64::from(trial_number(words, "--feeders")),
+        _ => setting.value,
+    };
+    Setting {
+        field: setting.field,
+        value,
+    }
+}
+
+/// The number that an option of `trial` is given, or has by default.
+fn trial_number(words: &[String], name: &str) -> u32
+    requires trial { table_of (word_in (map string_bytes words.now) 0) ≡ Some trial_rows }
+    requires whole { bad_place (map string_bytes words.now) ≡ None }
+    requires number { is_numeric trial_rows name.now ≡ true }
+    ensures { result ≡ given_number (map string_bytes words.now) name.now }
+{
+    number_of(words, name)
 }
 
 /// What words of `decode` ask for.
@@ -232,6 +324,7 @@ fn as_asked(words: &[String], setting: Setting) -> Setting
         Field::Hsl => u64::from(encode_number(words, "--slice")),
         Field::PayloadType => u64::from(encode_number(words, "--pt")),
         Field::Workers => u64::from(encode_number(words, "--workers")),
+        Field::Feeders => 2,
         _ => setting.value,
     };
     Setting {

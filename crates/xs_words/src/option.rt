@@ -36,12 +36,21 @@ static ENCODE: [CommandOption; 20] = [
     Number("--ssrc", "1"),
     Number("--time", "0"),
     Number("--step", "1500"),
-    Choice("--form", &["xs"], "xs"),
+    Choice("--form", &["rtp", "xs"], "rtp"),
     Number("--workers", "4"),
 ];
 
+static TRIAL: [CommandOption; 6] = [
+    Number("--seed", "1"),
+    Number("--width", "256"),
+    Number("--height", "128"),
+    Number("--share", "4000"),
+    Number("--workers", "4"),
+    Number("--feeders", "2"),
+];
+
 static DECODE: [CommandOption; 3] = [
-    Choice("--form", &["xs"], "xs"),
+    Choice("--form", &["rtp", "xs"], "rtp"),
     Number("--workers", "4"),
     Number("--feeders", "2"),
 ];
@@ -53,6 +62,7 @@ pub fn table_of(word: &str) -> Option<&'static [CommandOption]>
     match word {
         "encode" => Some(&ENCODE),
         "decode" => Some(&DECODE),
+        "trial" => Some(&TRIAL),
         _ => None,
     }
 }

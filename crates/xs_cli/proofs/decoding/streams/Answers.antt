@@ -2,7 +2,7 @@ use Rattle.std.proofs.Common.{◌≡◌, ◌≤◌, ℕ, List, length, drop, Res
 use Rattle.std.proofs.lemmas.List.{drop_all, take_rest, length-drop}
 use Rattle.xs_endings.specs.Ends.{change_of}
 use Rattle.xs_endings.specs.Turns.{Before}
-use Rattle.xs_cli.specs.Steps.{AreDecoded, IsNext}
+use Rattle.xs_cli.specs.Steps.{AreStreamsDecoded, IsNext}
 use Rattle.xs_cli.proofs.Streams.{all_decoded, are_bytes, drop_bytes, many_next, one_decoded, stop_decoded, told_decoded}
 use Rattle.xs_cli.specs.Encoded.{too_many}
 use Rattle.xs_cli.proofs.decoding.streams.Goals as goal
@@ -28,7 +28,7 @@ returns-in_err-place-clause-decoded g c =
     let e : c.from_residual.result ≡ Err c.in_err-place.field-0.0 = search rules in
     let next = subst (λ (l : List ℕ). IsNext at l (change_of q r v w) (Err c.in_err-place.field-0.0)) (take_rest bytes c.streams.place) (c.in_err-place.ensures.next 0) in
     let are = drop_bytes c.streams.place bytes (are_bytes bytes (λ i. omega (arith, c.type_inv.bytes i))) in
-    subst (λ (result : Result ℕ _). AreDecoded bytes (change_of p r u w) result) (sym e) (stop_decoded bytes p q r u v w c.streams.picture c.streams.place c.streams.invariant.decoded c.in_err-place.field-0.0 are next)
+    subst (λ (result : Result ℕ _). AreStreamsDecoded bytes (change_of p r u w) result) (sym e) (stop_decoded bytes p q r u v w c.streams.picture c.streams.place c.streams.invariant.decoded c.in_err-place.field-0.0 are next)
 
 pub overflow_add-place : goal.overflow_add-place
 overflow_add-place g c =

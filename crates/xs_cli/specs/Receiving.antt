@@ -1,0 +1,62 @@
+-- What the steps of receiving a capture owe.
+use Rattle.std.specs.Prelude.{◌≡◌, ◌≢◌, ℕ, ◌<◌, ◌^◌, ◌⊎◌, ⊤, true, false, length, [], Result, OnOk, OnErr, IfOk, IfErr, IsErrOf, List}
+use Rattle.xs_lists.specs.Packing.{AreBytes}
+use Rattle.xs_capture.specs.declared.pictures.SortFault.{SortFault}
+use Rattle.xs_capture.specs.declared.pictures.SortFault.TheVariants as sort
+use Rattle.xs_capture.specs.Pictures.{IsSorting, Sorting}
+use Rattle.xs_notes.specs.declared.note.Note.TheVariants as note
+use Rattle.xs_notes.specs.Lines.{NamesFault, note_lines}
+use Rattle.xs_recv.specs.declared.received.Received.{Received}
+use Rattle.xs_recv.specs.declared.received.Received.TheVariants as received
+use Rattle.xs_endings.specs.declared.stop.Stop.{Stop}
+use Rattle.xs_endings.specs.declared.stop.Stop.TheVariants as stop
+use Rattle.xs_endings.specs.Ends.{Change, Got, GotFront, HasFailed, IsLater, ends_of}
+use Rattle.xs_endings.specs.Said.{Said, status_of}
+use Rattle.xs_endings.specs.Steps.{IsHalt, IsSinkStop}
+use Rattle.xs_cli.specs.Captured.{IsCaptured, damage_note}
+
+-- a fault inside what is received is named, and slices are missing where the header is not
+abbrev pub IsNamed : Received → Type 0
+IsNamed (received.Picture picture) = ⊤
+IsNamed (received.Missing true slices) = ⊤
+IsNamed (received.Missing false slices) = slices ≢ []
+IsNamed (received.Damaged fault) = (timestamp : ℕ) → NamesFault (damage_note timestamp fault)
+
+-- the offers of bytes, fewer than 2^32, are sorted so
+pub record IsOfBytes (sorting : Sorting) : Type 0 where
+  pub capture : List ℕ
+  pub bytes : AreBytes capture
+  pub short : length capture < 2 ^ 32
+  pub sorts : IsSorting capture sorting
+
+-- what is said was given to the output and the notes, with its status; or a front of it
+pub record IsSaying (output notes : Change) (said : Said) (result : Result ℕ Stop) : Type 0 where
+  pub out : OnOk result (Got output said.out)
+  pub lines : OnOk result (Got notes (note_lines said.notes))
+  pub status : IfOk result (λ status. status ≡ status_of said)
+  pub out_front : OnErr result (GotFront output said.out)
+  pub lines_front : OnErr result (GotFront notes (note_lines said.notes))
+  pub why : IfErr result IsSinkStop
+  pub failed : IsErrOf result stop.WriteFault → HasFailed output ⊎ HasFailed notes
+  pub out_later : IsLater output
+  pub lines_later : IsLater notes
+
+-- it is one of the answers
+pub record HasSaid (Answer : Said → Type 0) (output notes : Change) (result : Result ℕ Stop) : Type 0 where
+  pub said : Said
+  pub answer : Answer said
+  pub saying : IsSaying output notes said result
+
+-- it does not fail by its source
+abbrev pub NeverStands : List ℕ → List ℕ → Type 0
+NeverStands taken out = ⊥
+
+-- a capture that is whole in memory is received, whatever the source is
+abbrev pub AreReceived : List ℕ → Change → Change → Result ℕ Stop → Type 0
+AreReceived bytes output notes result = (source : Change) → IsHalt (IsCaptured bytes) NeverStands bytes (ends_of source output notes) result
+
+-- how a capture is refused as a whole
+abbrev pub stop_of_sort : SortFault → Stop
+stop_of_sort (sort.Cut place) = stop.Told (note.InputCut place)
+stop_of_sort (sort.Pictures count) = stop.Told (note.InputPictures count)
+stop_of_sort sort.Memory = stop.Memory

@@ -1,0 +1,204 @@
+// A picture that is made of a number is encoded, sent twice in another order, received and compared: 'Trial'.
+ghost use Rattle.std.specs.Prelude.{◌≡◌, ◌<◌, ◌≤◌, ◌^◌, ◌++◌, ℕ, [], Ok, Some, IfOk, OnOk, IsSome, length};
+ghost use Rattle.xs_capture.specs.Offers.{offer_of, offers_of};
+ghost use Rattle.xs_capture.specs.Pictures.{dealt_parts};
+ghost use Rattle.xs_params.specs.Check.{AreInRange};
+ghost use Rattle.xs_params.specs.Picture.{Picture};
+ghost use Rattle.xs_rate.specs.Encoding.{encoding_of};
+ghost use Rattle.xs_trial.specs.Generator.{shuffle_of};
+ghost use Rattle.xs_endings.specs.Ends.{change_of};
+ghost use Rattle.xs_cli.specs.Tried.{IsOutcome, number_line, outcome_lines};
+ghost use Rattle.xs_cli.specs.TriedLaws.{OneTrial, TrialsAnswered};
+ghost use Rattle.xs_cli.specs.Trying.{AreOffered, HasTried, IsEncodedOr, IsLinesOf, IsTrialSized, in_order};
+
+use crate::input::DONE;
+use std::alloc::Global;
+use xs_capture::{Packet, Parts, offer};
+use xs_endings::{Stop, give};
+use xs_faults::SliceRefusal;
+use xs_io::{Gate, Memory, Octets, Sink};
+use xs_notes::Note;
+use xs_pack::{Datagrams, pack};
+use xs_params::{Checked, Planes, Stream};
+use xs_picture::encode_picture;
+use xs_recv::{Received, receive_picture};
+use xs_trial::{Comparison, compare, shuffle, trial_picture};
+
+/// What a trial came to.
+#[derive(Clone, Copy)]
+pub struct Outcome {
+    slices: u32,
+    bytes: u64,
+    packets: u32,
+    found: Comparison,
+}
+
+impl Outcome {
+    /// The six lines of it.
+    fn lines(&self, alloc: Global) -> Result<Octets, Memory>
+        ensures { IfOk result (λ lines. lines ≡ outcome_lines self.now) }
+    {
+        let mut lines = Octets::new(alloc);
+        add_line(alloc, &mut lines, "slices", u64::from(self.slices))?;
+        add_line(alloc, &mut lines, "bytes", self.bytes)?;
+        add_line(alloc, &mut lines, "packets", u64::from(self.packets))?;
+        add_line(alloc, &mut lines, "repeats", u64::from(self.packets))?;
+        add_line(alloc, &mut lines, "worst", u64::from(self.found.worst))?;
+        add_line(alloc, &mut lines, "sum", self.found.sum)?;
+        Ok(lines)
+    }
+}
+
+/// Appends a line of a word and a number.
+fn add_line(alloc: Global, lines: &mut Octets, word: &str, number: u64) -> Result<(), Memory>
+    ensures { OnOk result (lines.new ≡ lines.old ++ number_line word.now number) }
+{
+    match format!(in alloc; "{word} {number}\n") {
+        Ok(line) => lines.extend(line.as_bytes()),
+        Err(_) => Err(Memory),
+    }
+}
+
+/// Makes the picture of a seed, encodes, sends and receives it, and writes what that came to as one piece.
+pub(crate) fn trial<W: Sink, G: Gate>(
+    alloc: Global,
+    settings: &Checked,
+    seed: u32,
+    output: &mut W,
+    gate: &G,
+) -> Result<u8, Stop>
+    requires boxes { settings.now.boxes ≡ [] }
+    requires chunk { settings.now.chunk < 2 ^ 11 }
+    ensures { HasTried settings.now seed (change_of (W.held output.old) (W.held output.new) (W.faults output.old) (W.faults output.new)) result }
+{
+    known_range(settings);
+    let lines = lines_of(alloc, settings, seed, gate)?;
+    match give(output, lines.as_slice()) {
+        Ok(()) => Ok(DONE),
+        Err(why) => Err(why),
+    }
+}
+
+/// What is written of the picture of a seed.
+fn lines_of<G: Gate>(alloc: Global, settings: &Checked, seed: u32, gate: &G) -> Result<Octets, Stop>
+    requires { IsTrialSized settings.now }
+    ensures { IsLinesOf settings.now seed result }
+{
+    let (picture, state) = trial_picture(alloc, &settings.settings().shape, seed)?;
+    let stream = stream_of(alloc, settings, &picture)?;
+    let outcome = send(alloc, settings, &picture, &stream, state, gate)?;
+    let lines = outcome.lines(alloc)?;
+    Ok(lines)
+}
+
+/// The codestream of a picture.
+fn stream_of(alloc: Global, settings: &Checked, picture: &Planes) -> Result<Stream, Stop>
+    requires { picture.now.shape ≡ settings.now.shape }
+    ensures { IsEncodedOr settings.now picture.now result }
+{
+    match encode_picture(alloc, picture, settings) {
+        Ok(stream) => Ok(stream),
+        Err(SliceRefusal::Budget(budget)) => Err(Stop::Told(Note::Budget {
+            picture: 0,
+            slice: budget.slice,
+            size: budget.size,
+            share: budget.share,
+        })),
+        Err(SliceRefusal::Memory) => Err(Stop::Memory),
+    }
+}
+
+/// Sends the packets of a codestream twice, in the order that the generator's state gives, and compares what is received
+/// with its picture.
+fn send<G: Gate>(
+    alloc: Global,
+    settings: &Checked,
+    picture: &Planes,
+    stream: &Stream,
+    state: u64,
+    gate: &G,
+) -> Result<Outcome, Memory>
+    requires sized { IsTrialSized settings.now }
+    requires shape { picture.now.shape ≡ settings.now.shape }
+    requires encoded { encoding_of settings.now picture.now ≡ Ok stream.now }
+    ensures { IfOk result (IsOutcome settings.now picture.now stream.now) }
+{
+    let asked = settings.settings();
+    known_words(asked.ssrc);
+    let packets = pack(alloc, stream, settings, 0, 0)?;
+    let parts = deal(alloc, &packets, state, u32::from(asked.feeders))?;
+    let decoded = picture_of(receive_picture(alloc, parts, u32::from(asked.workers), gate)?);
+    let bytes = stream.bytes(alloc)?;
+    Ok(Outcome {
+        slices: stream.len(),
+        bytes: bytes.len() as u64,
+        packets: packets.len(),
+        found: compare(picture, &decoded),
+    })
+}
+
+// What is true of settings that were checked.
+fn known_range(settings: &Checked)
+    ensures { AreInRange settings.now }
+{
+    let _settings = settings.settings();
+}
+
+// A number of 32 bits.
+fn known_words(number: u32)
+    ensures { number < 2 ^ 32 }
+{
+    let _number = number;
+}
+
+/// The picture that was received.
+fn picture_of(received: Received) -> Planes
+    requires { (picture : Picture) × (received ≡ Received.Picture picture) }
+    ensures { received ≡ Received.Picture result }
+{
+    match received {
+        Received::Picture(planes) => planes,
+        Received::Missing { .. } | Received::Damaged(_) => unreachable!(),
+    }
+}
+
+/// The packets, each of them twice, in the order that the generator's state gives; they go to the feeders in turn.
+fn deal(alloc: Global, packets: &Datagrams, state: u64, feeders: u32) -> Result<Parts, Memory>
+    requires few { length packets.now < 2 ^ 31 }
+    requires offers { AreOffered packets.now }
+    requires some { 1 ≤ feeders }
+    requires most { feeders ≤ 8 }
+    ensures { IfOk result (λ parts. parts ≡ dealt_parts feeders (offers_of (in_order packets.now (shuffle_of (length packets.now) state)))) }
+{
+    let order = shuffle(alloc, packets.len(), state)?;
+    let numbers = order.as_slice();
+    let mut parts = Parts::new(alloc, feeders)?;
+    'sending: for entry in 0..numbers.len() {
+        let packet = offer_in(alloc, packets.get(numbers[entry]))?;
+        parts.add((entry % feeders as usize) as u32, packet)?;
+    }
+    Ok(parts)
+}
+
+/// The offer that a packet is.
+fn offer_in(alloc: Global, packet: &[u8]) -> Result<Packet, Memory>
+    requires { IsSome (offer_of packet.now) }
+    ensures { IfOk result (λ p. offer_of packet.now ≡ Some p) }
+{
+    match offer(alloc, packet)? {
+        Some(packet) => Ok(packet),
+        None => unreachable!(),
+    }
+}
+
+/// Each trial has an answer.
+#[tactic(auto, using(crate::proofs::TrialAnswers::trials_answered))]
+pub fn trials_answered()
+    ensures { TrialsAnswered }
+{}
+
+/// It has one, whatever the numbers of workers and feeders are.
+#[tactic(auto, using(crate::proofs::TrialAnswers::one_trial))]
+pub fn one_trial()
+    ensures { OneTrial }
+{}
