@@ -1,13 +1,11 @@
 // Codestreams become raw pictures, one after the other, or a capture does: 'Command words'.
-ghost use Rattle.std.specs.Prelude.{◌≡◌, ◌≢◌, ◌+◌, ◌-◌, ◌<◌, ◌≤◌, ◌^◌, ℕ, None, Some, IfErr, length, []};
+ghost use Rattle.std.specs.Prelude.{◌≡◌, ◌≢◌, ◌+◌, ◌<◌, ◌≤◌, ◌^◌, ℕ, None, Some, IfErr, length, []};
 ghost use Rattle.xs_capture.specs.Pictures.{most_pictures};
 ghost use Rattle.xs_endings.specs.Ends.{IsLater, change_of, ends_of};
 ghost use Rattle.xs_endings.specs.Steps.{IsGiven};
 ghost use Rattle.xs_params.specs.Picture.{raw_bytes};
 ghost use Rattle.xs_markers.specs.Reading.{head_fault};
 ghost use Rattle.xs_picture.specs.Faults.{stream_fault};
-ghost use Rattle.xs_params.specs.Accepted.{IsAccepted};
-ghost use Rattle.xs_params.specs.Geometry.{slice_count};
 ghost use Rattle.xs_words.specs.declared.command.Command.TheVariants as Commands;
 ghost use Rattle.xs_cli.specs.Decoded.{input_limit};
 ghost use Rattle.xs_cli.specs.Steps.{AreStreamsDecoded, IsBadEnd, IsCommandStop, IsDone, IsNext, IsOwnNote, IsTold};
@@ -17,12 +15,10 @@ use crate::receiving::Crew;
 use std::alloc::Global;
 use xs_endings::{Stop, give};
 use xs_faults::{HeadFault, SliceFault, StreamFault};
-use xs_geometry::Geometry;
-use xs_io::{Gate, Sink, Source, TakeFault, take_all};
-use xs_markers::{Header, read_header};
+use xs_io::{Gate, Memory, Sink, Source, TakeFault, take_all};
 use xs_notes::Note;
 use xs_params::Planes;
-use xs_picture::decode_picture;
+use xs_picture::{decode_picture, last_slice};
 use xs_samples::write_picture;
 use xs_words::Form;
 
@@ -150,26 +146,18 @@ fn refusal(alloc: Global, picture: u32, place: usize, rest: &[u8], fault: Stream
     }
 }
 
-/// How it is told that the end marker is not there. It names the last slice of the header, which is read again.
+/// How it is told that the end marker is not there. It names the last slice.
 fn bad_end(alloc: Global, picture: u32, rest: &[u8]) -> Stop
     requires few { length rest.now ≤ input_limit }
     requires headed { head_fault rest.now ≡ None }
     ensures { IsBadEnd picture rest.now result }
 {
-    match read_header(alloc, rest) {
-        Ok((header, _)) => Stop::Told(Note::DamagedSlice {
+    match last_slice(alloc, rest) {
+        Ok(slice) => Stop::Told(Note::DamagedSlice {
             picture,
-            slice: last_slice(&header),
+            slice,
             fault: SliceFault::End,
         }),
-        Err(_) => Stop::Memory,
+        Err(Memory) => Stop::Memory,
     }
-}
-
-/// The number of the last slice.
-fn last_slice(header: &Header) -> u32
-    requires { IsAccepted header.now }
-    ensures { result ≡ slice_count header.now - 1 }
-{
-    Geometry::of(header).slices() - 1
 }

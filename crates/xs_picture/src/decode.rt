@@ -9,4 +9,4 @@ mod samples;
 
 pub use coefs::StreamCoefs;
 pub use decoder::{decode_coefs, decode_picture};
-pub use reader::read_stream;
+pub use reader::{last_slice, read_stream};

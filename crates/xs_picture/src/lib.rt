@@ -8,7 +8,7 @@ ghost use Rattle.xs_picture.specs.ReadAgain.{EncodedIsRead};
 mod decode;
 mod encode;
 
-pub use decode::{StreamCoefs, decode_coefs, decode_picture, read_stream};
+pub use decode::{StreamCoefs, decode_coefs, decode_picture, last_slice, read_stream};
 pub use encode::encode_picture;
 pub use xs_faults::{Budget, SliceRefusal, StreamFault};
 

@@ -1,9 +1,11 @@
 //! The coefficients of codestreams.
-ghost use Rattle.std.specs.Prelude.{◌≡◌, ◌≢◌, ◌+◌, ◌≤◌, ◌<◌, ◌^◌, ◌++◌, true, false, Some, length, take, drop, IfOk, IfErr};
+ghost use Rattle.std.specs.Prelude.{◌≡◌, ◌≢◌, ◌+◌, ◌-◌, ◌≤◌, ◌<◌, ◌^◌, ◌++◌, true, false, None, Some, length, take, drop, IfOk, IfErr};
 ghost use Rattle.std.specs.Result.{result_err};
+ghost use Rattle.xs_params.specs.Accepted.{IsAccepted};
 ghost use Rattle.xs_params.specs.Geometry.{slice_count};
 ghost use Rattle.xs_params.specs.Markers.{eoc};
 ghost use Rattle.xs_markers.specs.Read.{IsHeaderRead};
+ghost use Rattle.xs_markers.specs.Reading.{head_fault, header_at};
 ghost use Rattle.xs_reading.specs.Stream.{slices_fault, stream_fault_of_head as fault_of_head, stream_fault_of_slice as fault_of_slice};
 ghost use Rattle.xs_picture.specs.Faults.{stream_fault};
 ghost use Rattle.xs_picture.specs.StreamRead.{AreSlicesRead, IsStreamRead, eoc_fault};
@@ -12,6 +14,7 @@ use crate::decode::coefs::StreamCoefs;
 use std::alloc::Global;
 use xs_faults::{HeadFault, PrecinctFault, SliceFault, StreamFault};
 use xs_geometry::Geometry;
+use xs_io::Memory;
 use xs_markers::read_header;
 use xs_params::Header;
 use xs_params::markers::EOC;
@@ -157,4 +160,25 @@ pub fn read_stream(alloc: Global, bytes: &[u8]) -> Result<(StreamCoefs, usize), 
         });
     }
     Ok((coefs, end))
+}
+
+// The number of the last slice of a header.
+fn last_slice_of(header: &Header) -> u32
+    requires { IsAccepted header.now }
+    ensures { result ≡ slice_count header.now - 1 }
+{
+    Geometry::of(header).slices() - 1
+}
+
+/// The number of the last slice of the codestream that the bytes begin with, by its header, which is read again: a fault at the
+/// end of a codestream has no number of its own.
+pub fn last_slice(alloc: Global, bytes: &[u8]) -> Result<u32, Memory>
+    requires few { length bytes.now < 2 ^ 32 }
+    requires headed { head_fault bytes.now ≡ None }
+    ensures { IfOk result (λ slice. slice ≡ slice_count (header_at bytes.now) - 1) }
+{
+    match read_header(alloc, bytes) {
+        Ok((header, _)) => Ok(last_slice_of(&header)),
+        Err(_) => Err(Memory),
+    }
 }
