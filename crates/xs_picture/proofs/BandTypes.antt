@@ -1,19 +1,30 @@
--- What holds of each type of band holds of each band of a component: that it looks at no entry outside the plane, and how great its numbers are.
-use Rattle.std.proofs.Common.{◌≡◌, ℕ, zero, suc, ◌+◌, ◌-◌, ◌*◌, ◌/◌, ◌%◌, ◌^◌, ◌<◌, ◌≤◌, min, ℤ, pos, ◌+ℤ◌, sym, subst, ◌∙◌, arith, inl, inr, Bool, true, false}
+-- What holds of each type of band holds of each band of a component: so a splitter has the rows of each band.
+use Rattle.std.proofs.Common.{◌≡◌, ℕ, zero, suc, ◌+◌, ◌-◌, ◌*◌, ◌/◌, ◌%◌, ◌<◌, ◌≤◌, List, [], ◌∷◌, length, map, get_or, ℤ, true, false, ap, sym, subst, ◌∙◌, arith, inl, inr, refl}
 use Rattle.std.specs.Prelude.{if◌then◌else◌, nat_lt}
-use Rattle.std.proofs.lemmas.Bool.{cases_lt}
-use Rattle.std.proofs.lemmas.Int.{ints}
-use Rattle.xs_layout.specs.Geometry.{BandType, ll, hl}
-use Rattle.xs_signal.specs.Lines.{AllBelow, column_of}
-use Rattle.xs_signal.specs.Wavelet.{Split, Bands, band_plane, bands_of_plane, low_count, high_count, low_count_at, low_of, high_of, low_part, columns_kept, columns_low, columns_high}
+use Rattle.std.proofs.lemmas.Bool.{cases_lt, le-ltb}
+use Rattle.std.proofs.lemmas.List.{get_or-map, get_or_past, length-map}
+use Rattle.xs_layout.specs.Geometry.{BandType, ll, hl, components_of}
+use Rattle.xs_params.specs.declared.header.Header.{Header}
+use Rattle.xs_params.specs.Picture.{Picture}
+use Rattle.xs_params.specs.Accepted.{IsAccepted}
+use Rattle.xs_signal.specs.Wavelet.{Split, Bands, band_plane, bands_of_plane, low_count, high_count, low_count_at}
 use Rattle.xs_signal.specs.Stripe.{rows_at}
-use Rattle.xs_signal.proofs.Floors.{half_low, half_high, quarter_low, quarter_high}
-use Rattle.xs_wave.specs.Within.{SameWithin, SameBandsWithin}
-use Rattle.xs_wave.specs.Bands.{band_count, first_number, type_at, columns_in, rows_in}
+use Rattle.xs_splitter.specs.Level.{ShowRows, known_rows}
+use Rattle.xs_splitter.specs.Chain.{HaveAll, HoldBands}
+use Rattle.xs_splitter.specs.Shown.{ShowBands, KnowsRow, IsRow, hl_rows, lh_rows, hh_rows}
+use Rattle.xs_splitter.specs.declared.level.Level.{Level}
+use Rattle.xs_splitter.specs.declared.splitter.Splitter.{Splitter}
+use Rattle.xs_splitter.proofs.Chains.{given_count}
+use Rattle.xs_splitter.proofs.Shown.{bands_shown}
+use Rattle.xs_wave.specs.Within.{SameWithin}
+use Rattle.xs_wave.specs.Planes.{plane_of, HasSize}
+use Rattle.xs_wave.specs.Bands.{IsComponent, band_count, first_number, type_at, columns_in, rows_in}
 use Rattle.xs_wave.proofs.Splits.{high_columns, low_columns, rows_wide}
 use Rattle.xs_wave.proofs.Types.{deep_side, all_counted, first_type, first_wide, first_deep, wide_type, deep_type}
 use Rattle.xs_wave.proofs.WithinLaws.{rows_deep}
-use Rattle.xs_picture.proofs.Bounds.{IsLow, below_more}
+use Rattle.xs_decoding.proofs.Within.{accepted_component}
+use Rattle.xs_picture.specs.Decoding.{component_split}
+use Rattle.xs_picture.specs.Analysed.{AreComponentBandsOf, IsSplitUp, numbers_of, rows_by_type, rows_of_level}
 
 -- a type is the lowest, or of a level that is split across only, or one of three of a level that is split both ways
 pub each_type : (s : Split) (P : BandType → Type 0) → s.down ≤ s.across → P (ll s.across s.down) → ((level : ℕ) → s.down ≤ level → level < s.across → P (hl (suc level) s.down))
@@ -38,132 +49,126 @@ each_type s P deep low wide sides (suc before) inside =
           subst (λ k. P (type_at s k)) here (subst P (sym (deep_type s level side deep less few)) (sides level side less few))
     ]
 
--- ---- bands that are the same
+-- ---- the rows of a level
 
-abbrev SameType : Split → Bands → Bands → BandType → Type 0
-SameType s x y type = SameWithin (columns_in s type) (rows_in s type) (band_plane x type) (band_plane y type)
+one_there : (levels : List Level) (level : ℕ) (P : Type 0) → level < length levels → ((other : Level) → P) → P
+one_there [] level P inside f = absurd (omega (arith, inside))
+one_there (l ∷ levels) level P inside f = f l
 
--- planes that are the same in so many columns and rows, said by other numbers
-same_sizes : (width height columns rows : ℕ) (p q : ℕ → ℕ → ℤ) → columns ≡ width → rows ≡ height → SameWithin width height p q → SameWithin columns rows p q
-same_sizes width height columns rows p q wide high same row column above within = same row column (omega (arith, above, high)) (omega (arith, within, wide))
+-- what holds of a level's rows, whatever a level is that is not there
+pub at_level : (c : Splitter) (level : ℕ) (rows : Level → List (List ℤ)) (P : List (List ℤ) → Type 0) → level < length c.levels.items → ((other : Level) → P (rows (get_or c.levels.items level other))) → P (rows_of_level rows c level)
+at_level c level rows P inside each =
+    one_there c.levels.items level (P (rows_of_level rows c level)) inside (λ other. subst P (sym (get_or-map rows c.levels.items level other [] inside)) (each other))
 
-next : (level : ℕ) → level + 1 ≡ suc level
-next level = omega arith
+pub level_there : (c : Splitter) (level line : ℕ) (rows : Level → List (List ℤ)) → line < length (rows_of_level rows c level) → level < length c.levels.items
+level_there c level line rows inside =
+    elim (cases_lt level (length c.levels.items)) [
+      | inl less ↦ less
+      | inr past ↦
+          let none : rows_of_level rows c level ≡ [] = get_or_past (map rows c.levels.items) level [] (omega (arith, past, length-map c.levels.items rows)) in
+          let empty : length (rows_of_level rows c level) ≡ 0 = ap length none in
+          absurd (omega (arith, empty, inside))
+    ]
 
-same_deep : (s : Split) (x y : Bands) → s.down ≤ s.across → SameBandsWithin s x y → (level side : ℕ) → level < s.down → side < 3 → SameType s x y (deep_side (suc level) side)
-same_deep s x y deep same level zero less few =
-    same_sizes _ _ _ _ (x.hl (suc level)) (y.hl (suc level)) (high_columns s.width level) (low_columns s.height (suc level) ∙ sym (rows_deep s (suc level) (omega (arith, less))))
-    (subst (λ k. SameWithin (high_count (low_count_at s.width level)) (rows_at s k) (x.hl k) (y.hl k)) (next level) (same.hl level (omega (arith, less, deep))))
-same_deep s x y deep same level (suc zero) less few =
-    same_sizes _ _ _ _ (x.lh (suc level)) (y.lh (suc level)) (low_columns s.width (suc level)) (high_columns s.height level)
-    (subst (λ k. SameWithin (low_count (low_count_at s.width level)) (high_count (low_count_at s.height level)) (x.lh k) (y.lh k)) (next level) (same.lh level less))
-same_deep s x y deep same level (suc (suc zero)) less few =
-    same_sizes _ _ _ _ (x.hh (suc level)) (y.hh (suc level)) (high_columns s.width level) (high_columns s.height level)
-    (subst (λ k. SameWithin (high_count (low_count_at s.width level)) (high_count (low_count_at s.height level)) (x.hh k) (y.hh k)) (next level) (same.hh level less))
-same_deep s x y deep same level (suc (suc (suc side))) less few = absurd (omega (arith, few))
+pub row_known : (c : Splitter) (level line : ℕ) (rows : Level → List (List ℤ)) → line < length (rows_of_level rows c level) → KnowsRow rows c level line
+row_known c level line rows inside other = subst (λ r. line < length r) (get_or-map rows c.levels.items level other [] (level_there c level line rows inside)) inside
 
--- bands that are the same where they are, are so by number
-pub same_types : (s : Split) (x y : Bands) → s.down ≤ s.across → SameBandsWithin s x y → (number : ℕ) → number < band_count s → SameType s x y (type_at s number)
-same_types s x y deep same =
-    each_type s (SameType s x y) deep
-    (same_sizes _ _ _ _ x.ll y.ll (low_columns s.width s.across) (low_columns s.height s.down ∙ sym (rows_wide s s.across deep)) same.ll)
-    (λ level from to. same_sizes _ _ _ _ (x.hl (suc level)) (y.hl (suc level)) (high_columns s.width level) (low_columns s.height s.down ∙ sym (rows_wide s (suc level) (omega (arith, from))))
-    (subst (λ k. SameWithin (high_count (low_count_at s.width level)) (rows_at s k) (x.hl k) (y.hl k)) (next level) (same.hl level to)))
-    (same_deep s x y deep same)
+pub row_is : (c : Splitter) (level line : ℕ) (rows : Level → List (List ℤ)) (numbers : List ℤ) → line < length (rows_of_level rows c level) → IsRow rows c level line numbers → numbers ≡ get_or (rows_of_level rows c level) line []
+row_is c level line rows numbers inside is = at_level c level rows (λ r. numbers ≡ get_or r line []) (level_there c level line rows inside) is
 
--- ---- how great the numbers are
+-- the rows of a type by its sides
+pub low_of_type : (c : Splitter) (t : BandType) → t.high_down ≡ false → t.high_across ≡ false → rows_by_type c t ≡ c.low.items
+low_of_type c t down across =
+    ap (λ d. if d then (if t.high_across then rows_of_level hh_rows c (t.down - 1) else rows_of_level lh_rows c (t.down - 1)) else (if t.high_across then rows_of_level hl_rows c (t.across - 1) else c.low.items)) down
+    ∙ ap (λ a. if a then rows_of_level hl_rows c (t.across - 1) else c.low.items) across
 
-high_low : (b n : ℕ) (line : ℕ → ℤ) → 4 ≤ b → AllBelow b line → AllBelow (2 * b) (high_of n line)
-high_low b n line some small k =
-    let odd = small (2 * k + 1) in
-    let left = small (2 * k) in
-    let right = small (2 * min (k + 1) (low_count n - 1)) in
-    let s = line (2 * k) +ℤ line (2 * min (k + 1) (low_count n - 1)) in
-    record {
-      least = omega (arith, ints, half_low s, half_high s, odd.least, odd.most, left.least, left.most, right.least, right.most, some);
-      most = omega (arith, ints, half_low s, half_high s, odd.least, odd.most, left.least, left.most, right.least, right.most, some);
-    }
+pub hl_of_type : (c : Splitter) (t : BandType) → t.high_down ≡ false → t.high_across ≡ true → rows_by_type c t ≡ rows_of_level hl_rows c (t.across - 1)
+hl_of_type c t down across =
+    ap (λ d. if d then (if t.high_across then rows_of_level hh_rows c (t.down - 1) else rows_of_level lh_rows c (t.down - 1)) else (if t.high_across then rows_of_level hl_rows c (t.across - 1) else c.low.items)) down
+    ∙ ap (λ a. if a then rows_of_level hl_rows c (t.across - 1) else c.low.items) across
 
-low_low : (b n : ℕ) (line : ℕ → ℤ) → 4 ≤ b → AllBelow b line → AllBelow (4 * b) (low_of n line)
-low_low b n line some small k =
-    let even = small (2 * k) in
-    let left = high_low b n line some small (k - 1) in
-    let right = high_low b n line some small (min k (high_count n - 1)) in
-    let s = high_of n line (k - 1) +ℤ high_of n line (min k (high_count n - 1)) +ℤ pos 2 in
-    record {
-      least = omega (arith, ints, quarter_low s, quarter_high s, even.least, even.most, left.least, left.most, right.least, right.most, some);
-      most = omega (arith, ints, quarter_low s, quarter_high s, even.least, even.most, left.least, left.most, right.least, right.most, some);
-    }
+pub lh_of_type : (c : Splitter) (t : BandType) → t.high_down ≡ true → t.high_across ≡ false → rows_by_type c t ≡ rows_of_level lh_rows c (t.down - 1)
+lh_of_type c t down across =
+    ap (λ d. if d then (if t.high_across then rows_of_level hh_rows c (t.down - 1) else rows_of_level lh_rows c (t.down - 1)) else (if t.high_across then rows_of_level hl_rows c (t.across - 1) else c.low.items)) down
+    ∙ ap (λ a. if a then rows_of_level hh_rows c (t.down - 1) else rows_of_level lh_rows c (t.down - 1)) across
 
-low_more : (b c : ℕ) (p : ℕ → ℕ → ℤ) → b ≤ c → IsLow b p → IsLow c p
-low_more b c p more low row column = below_more b c (p row column) more (low row column)
+pub hh_of_type : (c : Splitter) (t : BandType) → t.high_down ≡ true → t.high_across ≡ true → rows_by_type c t ≡ rows_of_level hh_rows c (t.down - 1)
+hh_of_type c t down across =
+    ap (λ d. if d then (if t.high_across then rows_of_level hh_rows c (t.down - 1) else rows_of_level lh_rows c (t.down - 1)) else (if t.high_across then rows_of_level hl_rows c (t.across - 1) else c.low.items)) down
+    ∙ ap (λ a. if a then rows_of_level hh_rows c (t.down - 1) else rows_of_level lh_rows c (t.down - 1)) across
 
-kept_low : (s : Split) (level b : ℕ) (p : ℕ → ℕ → ℤ) → 4 ≤ b → IsLow b p → IsLow (4 * b) (columns_kept s level p)
-kept_low s level b p some low = by_side (nat_lt level s.down)
+-- ---- the rows of a band
+
+abbrev IsHeld : ℕ → ℕ → List (List ℤ) → (ℕ → ℕ → ℤ) → Type 0
+IsHeld columns lines rows p = HasSize columns lines rows × SameWithin columns lines (plane_of rows) p
+
+band_held : (width height columns lines : ℕ) (rows : List (List ℤ)) (p : ℕ → ℕ → ℤ) → columns ≡ width → lines ≡ height → length rows ≡ height → ShowRows width rows p → IsHeld columns lines rows p
+band_held width height columns lines rows p wide high many shown = (sized, same)
   where
-    by_side : (deep : Bool) → IsLow (4 * b) (if deep then columns_low s level p else p)
-    by_side true row column = low_low b (low_count_at s.height level) (column_of p column) some (λ k. low k column) row
-    by_side false row column = below_more b (4 * b) (p row column) (omega (arith, some)) (low row column)
+    sized : HasSize columns lines rows
+    sized = record { wide = λ row inside. shown.wide row inside ∙ sym wide; high = many ∙ sym high }
 
--- the bound after so many levels
-abbrev reach : ℕ → ℕ
-reach zero = 2 ^ 22
-reach (suc level) = 4 * (4 * reach level)
+    same : SameWithin columns lines (plane_of rows) p
+    same row column above within =
+        let there : row < length rows = omega (arith, above, high, many) in
+        let width_here = shown.wide row there in
+        shown.shown row there column (omega (arith, within, wide, width_here))
 
-reach_least : (level : ℕ) → 4 ≤ reach level
-reach_least zero = omega arith
-reach_least (suc level) = let before = reach_least level in omega (arith, before)
+side_held : (c : Splitter) (level width height columns lines : ℕ) (rows : Level → List (List ℤ)) (band : ℕ → ℕ → ℕ → ℤ) → level < length c.levels.items → columns ≡ width → lines ≡ height → ((other : Level) → length (rows (get_or c.levels.items level other)) ≡ height)
+    → ((other : Level) → ShowRows width (rows (get_or c.levels.items level other)) (band (level + 1))) → IsHeld columns lines (rows_of_level rows c (suc level - 1)) (band (suc level))
+side_held c level width height columns lines rows band inside wide high many shown =
+    let back : level ≡ suc level - 1 = omega arith in
+    let one : level + 1 ≡ suc level = omega arith in
+    subst (λ k. IsHeld columns lines (rows_of_level rows c k) (band (suc level))) back
+    (subst (λ k. IsHeld columns lines (rows_of_level rows c level) (band k)) one
+    (at_level c level rows (λ r. IsHeld columns lines r (band (level + 1))) inside (λ other. band_held width height columns lines (rows (get_or c.levels.items level other)) (band (level + 1)) wide high (many other) (shown other))))
 
-reach_most : (level : ℕ) → level ≤ 5 → reach level ≤ 2 ^ 42
-reach_most zero few = omega arith
-reach_most (suc zero) few = omega arith
-reach_most (suc (suc zero)) few = omega arith
-reach_most (suc (suc (suc zero))) few = omega arith
-reach_most (suc (suc (suc (suc zero)))) few = omega arith
-reach_most (suc (suc (suc (suc (suc zero))))) few = omega arith
-reach_most (suc (suc (suc (suc (suc (suc level)))))) few = absurd (omega (arith, few))
+abbrev IsTypeHeld : Split → Splitter → Bands → BandType → Type 0
+IsTypeHeld s c b type = IsHeld (columns_in s type) (rows_in s type) (rows_by_type c type) (band_plane b type)
 
-part_low : (s : Split) (p : ℕ → ℕ → ℤ) → IsLow (2 ^ 22) p → (level : ℕ) → IsLow (reach level) (low_part s p level)
-part_low s p low zero row column = low row column
-part_low s p low (suc level) row column =
-    let kept = kept_low s level (reach level) (low_part s p level) (reach_least level) (part_low s p low level) in
-    low_low (4 * reach level) (low_count_at s.width level) (columns_kept s level (low_part s p level) row) (omega (arith, reach_least level)) (λ k. kept row k) column
+deep_held : (s : Split) (c : Splitter) (p : ℕ → ℕ → ℤ) → s.down ≤ s.across → HaveAll s c.levels.items c.low.items → ShowBands s p c.levels.items c.low.items → (level side : ℕ) → level < s.down → side < 3
+    → IsTypeHeld s c (bands_of_plane s p) (deep_side (suc level) side)
+deep_held s c p deep all shown level zero less few =
+    side_held c level (high_count (low_count_at s.width level)) (low_count_at s.height (suc level)) _ _ hl_rows (bands_of_plane s p).hl (omega (arith, less, deep, all.many)) (high_columns s.width level) (low_columns s.height (suc level))
+    (λ other. let d = all.done level other (omega arith) less in d.all.hl ∙ ap low_count (d.height ∙ rows_deep s level (omega (arith, less)))) (λ other. shown.hl level other (omega (arith, less, deep)))
+deep_held s c p deep all shown level (suc zero) less few =
+    side_held c level (low_count (low_count_at s.width level)) (high_count (low_count_at s.height level)) _ _ lh_rows (bands_of_plane s p).lh (omega (arith, less, deep, all.many)) (low_columns s.width (suc level)) (high_columns s.height level)
+    (λ other. let d = all.done level other (omega arith) less in d.all.lh ∙ ap high_count (d.height ∙ rows_deep s level (omega (arith, less)))) (λ other. shown.lh level other less)
+deep_held s c p deep all shown level (suc (suc zero)) less few =
+    side_held c level (high_count (low_count_at s.width level)) (high_count (low_count_at s.height level)) _ _ hh_rows (bands_of_plane s p).hh (omega (arith, less, deep, all.many)) (high_columns s.width level) (high_columns s.height level)
+    (λ other. let d = all.done level other (omega arith) less in d.all.hh ∙ ap high_count (d.height ∙ rows_deep s level (omega (arith, less)))) (λ other. shown.hh level other less)
+deep_held s c p deep all shown level (suc (suc (suc side))) less few = absurd (omega (arith, few))
 
--- the bands of a plane of small numbers, level by level
-record AreSmallBands (b : Bands) : Type 0 where
-  hl : (level : ℕ) → level ≤ 5 → IsLow (2 ^ 50) (b.hl level)
-  lh : (level : ℕ) → level ≤ 5 → IsLow (2 ^ 50) (b.lh level)
-  hh : (level : ℕ) → level ≤ 5 → IsLow (2 ^ 50) (b.hh level)
+wide_held : (s : Split) (c : Splitter) (p : ℕ → ℕ → ℤ) → HaveAll s c.levels.items c.low.items → ShowBands s p c.levels.items c.low.items → (level : ℕ) → s.down ≤ level → level < s.across → IsTypeHeld s c (bands_of_plane s p) (hl (suc level) s.down)
+wide_held s c p all shown level from to =
+    side_held c level (high_count (low_count_at s.width level)) (rows_at s level) _ _ hl_rows (bands_of_plane s p).hl (omega (arith, to, all.many)) (high_columns s.width level) (low_columns s.height s.down ∙ sym (rows_wide s level from))
+    (λ other. given_count s level (rows_at s level) (get_or c.levels.items level other) (all.rest level other from to) ∙ ap (λ d. if d then known_rows (rows_at s level) else rows_at s level) (le-ltb level s.down from))
+    (λ other. shown.hl level other to)
 
-bands_small : (s : Split) (p : ℕ → ℕ → ℤ) → IsLow (2 ^ 22) p → AreSmallBands (bands_of_plane s p)
-bands_small s p low = record {
-  hl = λ level few row column.
-      let q = columns_kept s (level - 1) (low_part s p (level - 1)) in
-      below_more (2 * (4 * reach (level - 1))) (2 ^ 50) _ (omega (arith, reach_most (level - 1) (omega (arith, few))))
-      (high_low (4 * reach (level - 1)) (low_count_at s.width (level - 1)) (q row) (omega (arith, reach_least (level - 1))) (λ k. kept_low s (level - 1) (reach (level - 1)) (low_part s p (level - 1)) (reach_least (level - 1)) (part_low s p low (level - 1)) row k) column);
-  lh = λ level few row column.
-      let q = columns_high s (level - 1) (low_part s p (level - 1)) in
-      below_more (4 * (2 * reach (level - 1))) (2 ^ 50) _ (omega (arith, reach_most (level - 1) (omega (arith, few))))
-      (low_low (2 * reach (level - 1)) (low_count_at s.width (level - 1)) (q row) (omega (arith, reach_least (level - 1))) (λ k. columns_small (level - 1) row k) column);
-  hh = λ level few row column.
-      let q = columns_high s (level - 1) (low_part s p (level - 1)) in
-      below_more (2 * (2 * reach (level - 1))) (2 ^ 50) _ (omega (arith, reach_most (level - 1) (omega (arith, few))))
-      (high_low (2 * reach (level - 1)) (low_count_at s.width (level - 1)) (q row) (omega (arith, reach_least (level - 1))) (λ k. columns_small (level - 1) row k) column);
-}
+-- the rows of a splitter are those of the bands
+rows_held : (s : Split) (c : Splitter) (p : ℕ → ℕ → ℤ) → s.down ≤ s.across → HaveAll s c.levels.items c.low.items → ShowBands s p c.levels.items c.low.items → (number : ℕ) → number < band_count s → IsTypeHeld s c (bands_of_plane s p) (type_at s number)
+rows_held s c p deep all shown =
+    each_type s (IsTypeHeld s c (bands_of_plane s p)) deep
+    (band_held (low_count_at s.width s.across) (rows_at s s.across) _ _ c.low.items (bands_of_plane s p).ll (low_columns s.width s.across) (low_columns s.height s.down ∙ sym (rows_wide s s.across deep)) all.given shown.ll)
+    (wide_held s c p all shown) (deep_held s c p deep all shown)
+
+pub component_split_up : (h : Header) (picture : Picture) (component : ℕ) (c : Splitter) → IsAccepted h → component < components_of h.shape.format → IsSplitUp h picture component c → AreComponentBandsOf h picture component (rows_by_type c)
+component_split_up h picture component c accepted there up = record { are = λ number inside. (held number inside).0; shown = λ number inside. (held number inside).1 }
   where
-    columns_small : (level : ℕ) → IsLow (2 * reach level) (columns_high s level (low_part s p level))
-    columns_small level row column = high_low (reach level) (low_count_at s.height level) (column_of (low_part s p level) column) (reach_least level) (λ k. part_low s p low level k column) row
+    s : Split
+    s = component_split h component
 
-deep_small : (b : Bands) → AreSmallBands b → (level side : ℕ) → level < 5 → side < 3 → IsLow (2 ^ 50) (band_plane b (deep_side (suc level) side))
-deep_small b small level zero less few = small.hl (suc level) (omega (arith, less))
-deep_small b small level (suc zero) less few = small.lh (suc level) (omega (arith, less))
-deep_small b small level (suc (suc zero)) less few = small.hh (suc level) (omega (arith, less))
-deep_small b small level (suc (suc (suc side))) less few = absurd (omega (arith, few))
+    p : ℕ → ℕ → ℤ
+    p = numbers_of h picture component
 
--- the bands of a plane of small numbers are small
-pub types_small : (s : Split) (p : ℕ → ℕ → ℤ) → s.down ≤ s.across → s.across ≤ 5 → IsLow (2 ^ 22) p → (number : ℕ) → number < band_count s → IsLow (2 ^ 50) (band_plane (bands_of_plane s p) (type_at s number))
-types_small s p deep few low =
-    each_type s (λ type. IsLow (2 ^ 50) (band_plane (bands_of_plane s p) type)) deep
-    (low_more (reach s.across) (2 ^ 50) (low_part s p s.across) (omega (arith, reach_most s.across few)) (part_low s p low s.across))
-    (λ level from to. (bands_small s p low).hl (suc level) (omega (arith, to, few)))
-    (λ level side less low_side. deep_small (bands_of_plane s p) (bands_small s p low) level side (omega (arith, less, deep, few)) low_side)
+    splittable : IsComponent s
+    splittable = accepted_component h component accepted there
+
+    all : HaveAll s c.levels.items c.low.items
+    all = subst (λ t. HaveAll t c.levels.items c.low.items) up.split up.all
+
+    holds : HoldBands s p c.levels.items c.low.items
+    holds = subst (λ t. HoldBands t p c.levels.items c.low.items) up.split up.holds
+
+    held : (number : ℕ) → number < band_count s → IsTypeHeld s c (bands_of_plane s p) (type_at s number)
+    held = rows_held s c p splittable.deep all (bands_shown.last s p c.levels.items c.low.items splittable.deep all holds)

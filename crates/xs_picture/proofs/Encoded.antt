@@ -35,6 +35,7 @@ use Rattle.xs_rate.proofs.Headers.{components-few, few-bands, header-size}
 use Rattle.xs_slice_write.specs.Written.{IsRefusal, IsWrittenSlice}
 use Rattle.xs_picture.specs.Encoded.{AreSlicesOf, IsEncodingOrMemory, WhyUnwritten}
 use Rattle.xs_geometry.specs.SliceLines.{BandLines, AreLinesOf, ShowRows, rows_held}
+use Rattle.xs_splitter.specs.declared.splitter.Splitter.{Splitter}
 use Rattle.xs_picture.specs.Analysed.{AreBandsOf, folded_rows}
 use Rattle.xs_picture.specs.Local.{IsWrittenAlike}
 use Rattle.xs_picture.proofs.Folded.{slice_shown}
@@ -123,13 +124,13 @@ why_unwritten h rows other share fill slice slices refusal.Memory inside alike b
 
 -- ---- one slice
 
-slice_alike : (h : Header) (picture : Picture) (bands : List (List (List (List ℤ)))) (slice : ℕ) (rows : List BandLines) → IsAccepted h → slice < slice_count h → AreBandsOf h picture bands → AreLinesOf h slice rows
+slice_alike : (h : Header) (picture : Picture) (bands : List Splitter) (slice : ℕ) (rows : List BandLines) → IsAccepted h → slice < slice_count h → AreBandsOf h picture bands → AreLinesOf h slice rows
     → ShowRows h (folded_rows h bands) rows → IsWrittenAlike h slice (rows_held rows) (rows_of_picture h picture)
 slice_alike h picture bands slice rows accepted inside are lines shown =
     slice_of_lines h slice (rows_held rows) (rows_of_picture h picture) accepted.geometry inside (slice_shown h picture bands slice rows accepted are lines shown)
 
 -- what is written of its rows is the slice of the picture
-pub written_slice : (s asked : Settings) (h : Header) (picture : Picture) (bands : List (List (List (List ℤ)))) (slice : ℕ) (rows : List BandLines) (bytes : List ℕ) → asked ≡ s → h ≡ header_of s → IsAccepted h → slice < slice_count h
+pub written_slice : (s asked : Settings) (h : Header) (picture : Picture) (bands : List Splitter) (slice : ℕ) (rows : List BandLines) (bytes : List ℕ) → asked ≡ s → h ≡ header_of s → IsAccepted h → slice < slice_count h
     → AreBandsOf h picture bands → AreLinesOf h slice rows → ShowRows h (folded_rows h bands) rows → IsWrittenSlice h (rows_held rows) asked.share asked.fill slice bytes
     → IsWrittenSlice (header_of s) (rows_of_picture (header_of s) picture) s.share s.fill slice bytes
 written_slice s asked h picture bands slice rows bytes same is accepted inside are lines shown written =
@@ -138,7 +139,7 @@ written_slice s asked h picture bands slice rows bytes same is accepted inside a
     (written_alike h slice (rows_held rows) (rows_of_picture h picture) asked.share asked.fill bytes (slice_alike h picture bands slice rows accepted inside are lines shown) written))
 
 -- and where they are refused, the picture is
-pub refused_slice : (s asked : Settings) (h : Header) (picture : Picture) (bands : List (List (List (List ℤ)))) (slice : ℕ) (rows : List BandLines) (slices : List (List ℕ)) (why : SliceRefusal) → asked ≡ s → h ≡ header_of s → IsAccepted h
+pub refused_slice : (s asked : Settings) (h : Header) (picture : Picture) (bands : List Splitter) (slice : ℕ) (rows : List BandLines) (slices : List (List ℕ)) (why : SliceRefusal) → asked ≡ s → h ≡ header_of s → IsAccepted h
     → slice < slice_count h → AreBandsOf h picture bands → AreLinesOf h slice rows → ShowRows h (folded_rows h bands) rows
     → AreSlicesTo (header_of s) (rows_of_picture (header_of s) picture) s.share s.fill slice slices → IsRefusal h (rows_held rows) asked.share slice why
     → WhyUnwritten (header_of s) (rows_of_picture (header_of s) picture) s.share why

@@ -1,4 +1,4 @@
--- The rows of a slice are folded from the planes of the bands.
+-- The rows of a slice are folded from the rows of the bands.
 use Rattle.std.proofs.Common.{◌≡◌, ◌≢◌, ◌↔◌, ℕ, ◌+◌, ◌-◌, ◌*◌, ◌/◌, ◌%◌, ◌^◌, ◌<◌, ◌≤◌, ℤ, pos, List, [], length, map, get_or, refl, sym, ap, subst, ◌∙◌, arith, inl, inr, Bool, true, false}
 use Rattle.std.specs.Prelude.{◌⊎◌, nat_lt, if◌then◌else◌, unsigned_abs}
 use Rattle.std.proofs.lemmas.Bool.{cases_eq, cases_lt, ltb-true, ltb-false}
@@ -15,7 +15,7 @@ use Rattle.xs_params.specs.Geometry.{bands_of, band_component, band_type_of, ban
 use Rattle.xs_signal.specs.Fold.{fold}
 use Rattle.xs_signal.specs.Lines.{entries_of}
 use Rattle.xs_signal.specs.Picture.{analysed, coefficients_of}
-use Rattle.xs_signal.specs.Wavelet.{Bands, band_plane}
+use Rattle.xs_signal.specs.Wavelet.{band_plane}
 use Rattle.xs_signal.proofs.Magnitudes.{fold_fits}
 use Rattle.xs_geometry.specs.SliceLines.{BandLines, AreLinesOf, HasLine, ShowRows, lines_at, row_at, rows_held}
 use Rattle.xs_geometry.specs.Laws.{IsWritten}
@@ -25,14 +25,13 @@ use Rattle.xs_geometry.proofs.PacketLines.{slice_has_lines}
 use Rattle.xs_rate.specs.Coefficients.{rows_of_picture, signal_of}
 use Rattle.xs_rate.specs.Laws.{AreSmall}
 use Rattle.xs_wave.specs.Planes.{plane_of, HasSize}
-use Rattle.xs_wave.specs.Bands.{band_count, columns_in, rows_in, type_at}
+use Rattle.xs_wave.specs.Bands.{band_count}
 use Rattle.xs_wave.proofs.Types.{all_counted}
-use Rattle.xs_decoding.specs.Decoded.{band_number}
-use Rattle.xs_decoding.proofs.Numbers.{type_of_number, width_of_number, height_of_number}
 use Rattle.xs_picture.specs.Decoding.{component_split}
-use Rattle.xs_picture.specs.Analysed.{AreBandsOf, ArePicturePlanes, IsBandFolded, folded_row, folded_rows, plane_of_band}
+use Rattle.xs_splitter.specs.declared.splitter.Splitter.{Splitter}
+use Rattle.xs_picture.specs.Analysed.{AreBandsOf, ArePictureRows, IsBandFolded, folded_row, folded_rows, plane_of_band}
 use Rattle.xs_picture.specs.Local.{SameInSlice}
-use Rattle.xs_picture.proofs.Filled.{band_sized, each_plane}
+use Rattle.xs_picture.proofs.Filled.{each_plane}
 
 -- ---- bands
 
@@ -42,11 +41,6 @@ component_below Mono band = omega arith
 component_below C422 band = omega arith
 component_below C444 band = omega arith
 
-joined_number : (f : Format) (band : ℕ) → band / components_of f * components_of f + band % components_of f ≡ band
-joined_number Mono band = omega arith
-joined_number C422 band = omega arith
-joined_number C444 band = omega arith
-
 type_below : (f : Format) (band types : ℕ) → band < types * components_of f → band / components_of f < types
 type_below Mono band types inside = omega (arith, inside)
 type_below C422 band types inside = omega (arith, inside)
@@ -55,26 +49,15 @@ type_below C444 band types inside = omega (arith, inside)
 pub component_there : (h : Header) (band : ℕ) → band_component h band < components_of h.shape.format
 component_there h band = component_below h.shape.format band
 
-number_is : (h : Header) (band : ℕ) → band_number h (band / components_of h.shape.format) (band_component h band) ≡ band
-number_is h band = joined_number h.shape.format band
-
 number_there : (h : Header) (band : ℕ) → h.nly ≤ h.nlx → band < bands_of h → band / components_of h.shape.format < band_count (component_split h (band_component h band))
 number_there h band deep inside =
     let types = type_below h.shape.format band (2 * h.nly + h.nlx + 1) inside in
     omega (arith, types, all_counted (component_split h (band_component h band)) deep)
 
-pub plane_there : (h : Header) (bands : List (List (List (List ℤ)))) (band : ℕ) → h.nly ≤ h.nlx → band < bands_of h → ArePicturePlanes h bands
-    → band / components_of h.shape.format < length (get_or bands (band_component h band) [])
-plane_there h bands band deep inside are = omega (arith, number_there h band deep inside, (are.each (band_component h band) (component_there h band)).sized.as_many)
-
--- the plane of a band has its size
-pub plane_sized : (h : Header) (bands : List (List (List (List ℤ)))) (band : ℕ) → h.nly ≤ h.nlx → band < bands_of h → ArePicturePlanes h bands
+-- the rows of a band have its size
+pub plane_sized : (h : Header) (bands : List Splitter) (band : ℕ) → h.nly ≤ h.nlx → band < bands_of h → ArePictureRows h bands
     → HasSize (band_width_of h band) (band_height_of h band) (plane_of_band h bands band)
-plane_sized h bands band deep inside are =
-    let component = band_component h band in
-    let number = band / components_of h.shape.format in
-    subst (λ n. HasSize (band_width_of h n) (band_height_of h n) (plane_of_band h bands band)) (number_is h band)
-    (band_sized h number component (get_or bands component []) (component_there h band) ((are.each component (component_there h band)).sized.sizes number (number_there h band deep inside)))
+plane_sized h bands band deep inside are = are.each (band_component h band) (component_there h band) (band / components_of h.shape.format) (number_there h band deep inside)
 
 -- ---- lines
 
@@ -115,12 +98,12 @@ folded_more fraction plane band old at rows next there wide more before = subst 
 -- ---- slices
 
 -- the rows of the first bands are folded
-pub record ShowBandsTo (h : Header) (bands : List (List (List (List ℤ)))) (slice end : ℕ) (rows : List BandLines) : Type 0 where
+pub record ShowBandsTo (h : Header) (bands : List Splitter) (slice end : ℕ) (rows : List BandLines) : Type 0 where
   pub lines : AreLinesOf h slice rows
   pub shown : (band line : ℕ) → band < end → HasLine rows band line → row_at rows band line ≡ map (folded_rows h bands band line) (upto (band_width_of h band))
 
--- a line of a slice's band is one of its plane, and as wide
-pub line_inside : (h : Header) (bands : List (List (List (List ℤ)))) (slice : ℕ) (rows : List BandLines) (band line : ℕ) → 1 ≤ h.hsl → h.nly ≤ h.nlx → ArePicturePlanes h bands → AreLinesOf h slice rows → HasLine rows band line
+-- a line of a slice's band is one of its rows, and as wide
+pub line_inside : (h : Header) (bands : List Splitter) (slice : ℕ) (rows : List BandLines) (band line : ℕ) → 1 ≤ h.hsl → h.nly ≤ h.nlx → ArePictureRows h bands → AreLinesOf h slice rows → HasLine rows band line
     → (line < length (plane_of_band h bands band)) × (length (get_or (plane_of_band h bands band) line []) ≡ length (row_at rows band line))
 line_inside h bands slice rows band line some deep are lines has =
     let there = (slice_has_lines h slice rows band line some lines).0 has in
@@ -128,7 +111,7 @@ line_inside h bands slice rows band line some deep are lines has =
     let inside : line < length (plane_of_band h bands band) = omega (arith, there.1, size.high) in
     (inside, size.wide line inside ∙ sym (lines.width band line has))
 
-pub rows_more : (h : Header) (bands : List (List (List (List ℤ)))) (slice band : ℕ) (plane : List (List ℤ)) (rows next : List BandLines) → 1 ≤ h.hsl → h.nly ≤ h.nlx → ArePicturePlanes h bands
+pub rows_more : (h : Header) (bands : List Splitter) (slice band : ℕ) (plane : List (List ℤ)) (rows next : List BandLines) → 1 ≤ h.hsl → h.nly ≤ h.nlx → ArePictureRows h bands
     → plane ≡ plane_of_band h bands band → IsBandFolded h.fq plane band rows next → ShowBandsTo h bands slice band rows → ShowBandsTo h bands slice (band + 1) next
 rows_more h bands slice band plane rows next some deep are is folded before = record {
   lines = folded.lines h slice before.lines;
@@ -151,36 +134,14 @@ rows_more h bands slice band plane rows next some deep are is folded before = re
 -- ---- the rows of a picture
 
 -- the entries of a row are the picture's
-entry_is : (h : Header) (picture : Picture) (bands : List (List (List (List ℤ)))) (band line column : ℕ) → h.nly ≤ h.nlx → AreBandsOf h picture bands → band < bands_of h → line < band_height_of h band → column < band_width_of h band
+entry_is : (h : Header) (picture : Picture) (bands : List Splitter) (band line column : ℕ) → h.nly ≤ h.nlx → AreBandsOf h picture bands → band < bands_of h → line < band_height_of h band → column < band_width_of h band
     → folded_rows h bands band line column ≡ band_plane (coefficients_of (signal_of h) (sample_at picture) (band_component h band)) (band_type_of h band) line column
 entry_is h picture bands band line column deep are inside above within =
-    ap (fold h.fq) ((are.each component there).shown number (number_there h band deep inside) line column (omega (arith, above, high)) (omega (arith, within, wide)))
-    ∙ sym (each_plane (fold h.fq) b (type_at (component_split h component) number) line column)
-    ∙ ap (λ t. band_plane (coefficients_of (signal_of h) (sample_at picture) component) t line column) (sym type_is)
-  where
-    component : ℕ
-    component = band_component h band
-
-    number : ℕ
-    number = band / components_of h.shape.format
-
-    there : band_component h band < components_of h.shape.format
-    there = component_there h band
-
-    b : Bands
-    b = analysed (signal_of h) (sample_at picture) component
-
-    type_is : band_type_of h band ≡ type_at (component_split h component) number
-    type_is = ap (band_type_of h) (sym (number_is h band)) ∙ type_of_number h number component there
-
-    wide : band_width_of h band ≡ columns_in (component_split h component) (type_at (component_split h component) number)
-    wide = ap (band_width_of h) (sym (number_is h band)) ∙ width_of_number h number component there
-
-    high : band_height_of h band ≡ rows_in (component_split h component) (type_at (component_split h component) number)
-    high = ap (band_height_of h) (sym (number_is h band)) ∙ height_of_number h number component there
+    ap (fold h.fq) ((are.each (band_component h band) (component_there h band)).shown (band / components_of h.shape.format) (number_there h band deep inside) line column above within)
+    ∙ sym (each_plane (fold h.fq) (analysed (signal_of h) (sample_at picture) (band_component h band)) (band_type_of h band) line column)
 
 -- the rows of a slice are those of the picture
-pub slice_shown : (h : Header) (picture : Picture) (bands : List (List (List (List ℤ)))) (slice : ℕ) (rows : List BandLines) → IsAccepted h → AreBandsOf h picture bands → AreLinesOf h slice rows
+pub slice_shown : (h : Header) (picture : Picture) (bands : List Splitter) (slice : ℕ) (rows : List BandLines) → IsAccepted h → AreBandsOf h picture bands → AreLinesOf h slice rows
     → ShowRows h (folded_rows h bands) rows → SameInSlice h slice (rows_held rows) (rows_of_picture h picture)
 slice_shown h picture bands slice rows accepted are lines shown band line inside above here = λ i column. entry column i
   where
@@ -203,7 +164,7 @@ slice_shown h picture bands slice rows accepted are lines shown band line inside
             get_or_past (map (folded_rows h bands band line) (upto (band_width_of h band))) column (pos 0) (omega (arith, past, length-map-range_with_len (folded_rows h bands band line) 0 (band_width_of h band)))
 
 -- folded rows are small
-pub rows_small_held : (h : Header) (bands : List (List (List (List ℤ)))) (rows : List BandLines) → ShowRows h (folded_rows h bands) rows → AreSmall (rows_held rows)
+pub rows_small_held : (h : Header) (bands : List Splitter) (rows : List BandLines) → ShowRows h (folded_rows h bands) rows → AreSmall (rows_held rows)
 rows_small_held h bands rows shown band line column = by_band (cases_lt band (length rows))
   where
     Small : List ℤ → Type 0

@@ -1,5 +1,12 @@
-use Rattle.xs_picture.proofs.Analysed.{component_analysed}
+use Rattle.std.proofs.Common.{length, ap, ◌∙◌}
+use Rattle.xs_picture.proofs.BandTypes.{component_split_up}
 use Rattle.xs_picture.proofs.encode.analysis.analyse_component.Goals as goal
 
+pub split_rows-requires-clause-width : goal.split_rows-requires-clause-width
+split_rows-requires-clause-width c = ap length c.as_mut_slice.ensures.value ∙ c.in_ok-row.ensures ∙ c.component_width-width.ensures.width
+
+pub split_rows-requires-clause-first : goal.split_rows-requires-clause-first
+split_rows-requires-clause-first c = c.in_ok-splitter.ensures c.args.component.picture.now
+
 pub returns : goal.returns
-returns c = component_analysed c.args.header.now c.args.picture.now c.args.component c.scale_plane.new.plane c.in_ok-bands.bands c.requires.accepted c.requires.component c.scale_plane.ensures c.in_ok-bands.ensures.planes c.in_ok-bands.ensures.bands
+returns c = component_split_up c.args.component.header.now c.args.component.picture.now c.args.component.number c.split_rows.new.splitter c.requires.accepted c.requires.there c.in_ok-split_rows.ensures

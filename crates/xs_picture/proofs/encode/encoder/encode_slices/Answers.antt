@@ -5,7 +5,7 @@ use Rattle.xs_params.specs.Geometry.{slice_count}
 use Rattle.xs_params.specs.Headers.{header_of}
 use Rattle.xs_rate.specs.Coefficients.{rows_of_picture}
 use Rattle.xs_picture.specs.Encoded.{WhyUnwritten}
-use Rattle.xs_picture.proofs.Analysed.{picture_planes}
+use Rattle.xs_picture.proofs.Analysed.{picture_rows}
 use Rattle.xs_picture.proofs.Encoded as pictures
 use Rattle.xs_picture.proofs.Folded.{rows_small_held}
 use Rattle.xs_picture.proofs.Results.{is_err}
@@ -15,7 +15,7 @@ pub blank-requires : goal.blank-requires
 blank-requires c = subst (λ g. 0 < slice_count g) (sym c.of-geometry.ensures) (pictures.some_slices c.in_ok-header.header c.in_ok-header.ensures.accepted)
 
 pub fold_slice-requires-clause-bands : goal.fold_slice-requires-clause-bands
-fold_slice-requires-clause-bands c = picture_planes c.in_ok-header.header c.args.planes.now c.in_ok-bands.bands c.in_ok-bands.ensures
+fold_slice-requires-clause-bands c = picture_rows c.in_ok-header.header c.args.planes.now c.in_ok-bands.bands c.in_ok-bands.ensures
 
 pub write_slice_in-requires-clause-small : goal.write_slice_in-requires-clause-small
 write_slice_in-requires-clause-small c = rows_small_held c.in_ok-header.header c.in_ok-bands.bands c.fold_slice.new.rows c.in_ok-fold_slice.ensures.shown

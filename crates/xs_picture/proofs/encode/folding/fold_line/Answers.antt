@@ -12,5 +12,5 @@ returns c =
     let rows = c.args.rows.now in
     let place = c.args.place in
     let size : length c.fold_row.new.row ≡ length (row_at rows place.0 place.1) =
-    ap length c.fold_row.ensures ∙ length-map-range_with_len (λ column. fold c.args.fraction (entries_of c.args.numbers.now column)) 0 (length c.args.numbers.now) ∙ c.requires.width in
-    row_lent rows place.0 place.1 c.fold_row.new.row c.requires.there size ∙ ap (with_row rows place.0 place.1) c.fold_row.ensures
+    ap length c.fold_row.ensures.folded ∙ length-map-range_with_len (λ column. fold c.args.fraction (entries_of c.args.numbers.now column)) 0 (length c.args.numbers.now) ∙ c.requires.width in
+    row_lent rows place.0 place.1 c.fold_row.new.row c.requires.there size ∙ ap (with_row rows place.0 place.1) c.fold_row.ensures.folded

@@ -1,5 +1,0 @@
-use Rattle.xs_picture.proofs.Analysed.{AreBandsTo}
-use Rattle.xs_picture.proofs.encode.analysis.analyse_picture.Given as goal
-
-abbrev pub invariant-components : goal.invariant-components
-invariant-components l = AreBandsTo l.header l.picture l.component l.bands
