@@ -10,3 +10,4 @@ pub mod PacketSizes
 pub mod Measuring
 pub mod Ends
 pub mod Lanes
+pub mod Stepping

@@ -9,18 +9,18 @@ use Rattle.xs_layout.specs.declared.Quant.{Quant}
 use Rattle.xs_params.specs.declared.header.Header.{Header}
 use Rattle.xs_params.specs.Rows.{Rows}
 use Rattle.xs_params.specs.Geometry.{band_width_of, bands_of, lines_of, precinct_lines, precincts_of, precinct_count}
-use Rattle.xs_spelling.specs.Sizes.{flag_size, signs_size}
+use Rattle.xs_spelling.specs.Sizes.{count_size, flag_size, signs_size}
 use Rattle.xs_spelling.specs.Written.{written_flag}
 use Rattle.xs_spelling.proofs.Sized.{lines_sized}
 use Rattle.xs_geometry.specs.SliceLines.{BandLines, HasLine, AreLinesOf, lines_at, rows_held}
 use Rattle.xs_geometry.proofs.PlaceFacts.{range_has}
 use Rattle.xs_rate.specs.Modes.{fewest, IsFirstFewest}
 use Rattle.xs_rate.proofs.Fewest.{first_fewest}
-use Rattle.xs_sizes.specs.Cut.{cut_line, AreCutSizes}
-use Rattle.xs_sizes.specs.Counted.{IsBandCounted, cut_at, no_sizes}
+use Rattle.xs_sizes.specs.Cut.{cut_line, signs_of, AreCutSizes, CutSizes}
+use Rattle.xs_sizes.specs.Counted.{IsBandCounted, line_in, no_line}
+use Rattle.xs_sizes.specs.LineSizes.{AreRegular, cut_sizes_at}
 use Rattle.xs_layout.specs.declared.Quant.TheVariants.{DeadZone, Uniform}
-use Rattle.xs_sizes.specs.Measured.{signs_of}
-use Rattle.xs_sizes.specs.declared.line.CutSizes.{CutSizes}
+use Rattle.xs_sizes.specs.declared.line.LineSizes.{LineSizes}
 use Rattle.xs_sizes.specs.declared.bands.BandCounts.{BandCounts}
 
 -- a line has flags in the last two modes
@@ -32,11 +32,20 @@ flags_are h kind rows t (suc (suc (suc zero))) band line few = lines_sized.flags
 flags_are h kind rows t (suc (suc (suc (suc mode)))) band line few = absurd (omega (arith, few))
 
 -- what is held of a line in a band
-pub sizes_are : (h : Header) (bands : List BandLines) (signs : Bool) (band line t : ℕ) (counts : BandCounts) (sizes : CutSizes) → IsBandCounted h bands signs band counts → counts.first ≤ line → 16 * (line - counts.first) + 15 < length counts.cuts.items → t ≤ 15
-    → sizes ≡ get_or counts.cuts.items (16 * (line - counts.first) + t) no_sizes → AreCutSizes h (rows_held bands) signs t band line sizes
+pub sizes_are : (h : Header) (bands : List BandLines) (signs : Bool) (band line t : ℕ) (counts : BandCounts) (sizes : LineSizes) → IsBandCounted h bands signs band counts → counts.first ≤ line → line - counts.first < length counts.lines.items → t ≤ 15
+    → sizes ≡ get_or counts.lines.items (line - counts.first) no_line → AreCutSizes h (rows_held bands) signs t band line (cut_sizes_at sizes t)
 sizes_are h bands signs band line t counts sizes known from there le e =
-    subst (λ s. AreCutSizes h (rows_held bands) signs t band line s) (sym (e ∙ ap (λ first. cut_at counts.cuts.items first line t) known.first))
+    subst (λ s. AreCutSizes h (rows_held bands) signs t band line s) (sym (ap (λ s. cut_sizes_at s t) (e ∙ ap (λ first. line_in counts.lines.items first line) known.first)))
     (known.lines.sizes line t (omega (arith, known.first, from)) (omega (arith, there, known.lines.count, known.first, from)) le)
+
+-- the bits of its flags and of its counts
+pub mode_bits : (h : Header) (bands : List BandLines) (signs : Bool) (band line t mode : ℕ) (counts : BandCounts) (sizes : LineSizes) → IsBandCounted h bands signs band counts → counts.first ≤ line → line - counts.first < length counts.lines.items → t ≤ 15 → mode < 4
+    → sizes ≡ get_or counts.lines.items (line - counts.first) no_line
+    → (if nat_le 2 mode then counts.flags else 0) + get_or (cut_sizes_at sizes t).counts mode 0 ≡ flag_size (cut_line h h.quant (rows_held bands) t mode band line) + count_size (cut_line h h.quant (rows_held bands) t mode band line)
+mode_bits h bands signs band line t mode counts sizes known from there le few e =
+    let flags = ap (λ n. if nat_le 2 mode then n else 0) known.flags ∙ sym (flags_are h h.quant (rows_held bands) t mode band line few) in
+    ap (λ n. n + get_or (cut_sizes_at sizes t).counts mode 0) flags
+    ∙ ap (λ n. flag_size (cut_line h h.quant (rows_held bands) t mode band line) + n) ((sizes_are h bands signs band line t counts sizes known from there le e).counts h.quant mode few)
 
 -- one number is the first mode with the fewest bits
 one_first : (size : ℕ → ℕ) (m n : ℕ) → IsFirstFewest size m → IsFirstFewest size n → m ≡ n
@@ -83,7 +92,12 @@ pub four_same : (a b c d e f g h : ℕ) → a ≡ e → b ≡ f → c ≡ g → 
 four_same a b c d e f g h p q r s = ap (λ x. x ∷ b ∷ c ∷ d ∷ []) p ∙ ap (λ x. e ∷ x ∷ c ∷ d ∷ []) q ∙ ap (λ x. e ∷ f ∷ x ∷ d ∷ []) r ∙ ap (λ x. e ∷ f ∷ g ∷ x ∷ []) s
 
 -- what is held of a line that is there
-pub held_line : (h : Header) (bands others : List BandLines) (signs : Bool) (band line t : ℕ) (counts : BandCounts) (sizes : CutSizes) → IsBandCounted h bands signs band counts → IsBandCounted h others signs band counts → HasLine others band line → t ≤ 15
-    → sizes ≡ get_or counts.cuts.items (16 * (line - counts.first) + t) no_sizes → AreCutSizes h (rows_held bands) signs t band line sizes
+pub held_line : (h : Header) (bands others : List BandLines) (signs : Bool) (band line t : ℕ) (counts : BandCounts) (sizes : LineSizes) → IsBandCounted h bands signs band counts → IsBandCounted h others signs band counts → HasLine others band line → t ≤ 15
+    → sizes ≡ get_or counts.lines.items (line - counts.first) no_line → AreCutSizes h (rows_held bands) signs t band line (cut_sizes_at sizes t)
 held_line h bands others signs band line t counts sizes known held has le e =
     sizes_are h bands signs band line t counts sizes known (omega (arith, held.first, has.from)) (omega (arith, held.first, held.lines.count, has.from, has.line_there)) le e
+
+pub held_regular : (h : Header) (bands : List BandLines) (signs : Bool) (band line : ℕ) (counts : BandCounts) (sizes : LineSizes) → IsBandCounted h bands signs band counts → HasLine bands band line
+    → sizes ≡ get_or counts.lines.items (line - counts.first) no_line → AreRegular sizes
+held_regular h bands signs band line counts sizes held has e =
+    subst AreRegular (sym (e ∙ ap (λ first. line_in counts.lines.items first line) held.first)) (held.lines.regular line has.from has.line_there)

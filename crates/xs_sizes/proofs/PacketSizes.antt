@@ -122,7 +122,7 @@ are_written h rows cuts candidate precinct first end place bits order bands are 
     each : (size : Line → ℕ) → sum_by (λ band. size (mode_line h rows cuts precinct place.line band)) (packet_bands h place) ≡ sum_by (λ band. size (line band)) (packet_bands h place)
     each size = sum_bands (λ band. size (mode_line h rows cuts precinct place.line band)) (λ band. size (line band)) (packet_bands h place) first end order bands (λ band inside. ap size (line_same h rows cuts candidate precinct band place (are band inside)))
 
-abbrev whole_size : Bool → Bool → ℕ → ℕ → ℕ → ℕ → ℕ
+abbrev pub whole_size : Bool → Bool → ℕ → ℕ → ℕ → ℕ → ℕ
 whole_size long apart flags counts numbers signs = (if long then 7 else 5) + bytes_for flags + bytes_for counts + bytes_for numbers + (if apart then bytes_for signs else 0)
 
 signs_same : (apart own : Bool) (a b : ℕ) → own ≡ apart → (own ≡ true → a ≡ b) → (if apart then bytes_for a else 0) ≡ (if apart then bytes_for b else 0)

@@ -83,16 +83,10 @@ in_sum planes t (g ∷ groups) =
 pub length_upto : (n : ℕ) → length (upto n) ≡ n
 length_upto n = sym (length-map (upto n) (λ k. k)) ∙ length-map-range_with_len (λ k. k) 0 n
 
-no_zeros : (n group : ℕ) → get_or {A = ℕ} (replicate n 0) group 0 ≡ 0
-no_zeros zero group = refl
-no_zeros (suc n) zero = refl
-no_zeros (suc n) (suc group) = no_zeros n group
-
 -- the bits of a line's counts where nothing is above it
-pub alone_size : (none above planes : List ℕ) (row : ℕ → ℤ) (signs : Bool) (line : LineSizes) (t : ℕ) → t ≤ 15 → none ≡ replicate (length planes) 0 → AreLineSizes none above planes row signs line
+pub alone_size : (above planes : List ℕ) (row : ℕ → ℤ) (signs : Bool) (line : LineSizes) (t : ℕ) → t ≤ 15 → AreLineSizes above planes row signs line
     → get_or line.plain.all t 0 ≡ left_sum (λ group. get_or planes group 0) t (upto (length planes))
-alone_size none above planes row signs line t le zeros are =
-    are.plain t le ∙ plain_size none planes t (λ group inside. ap (λ l. get_or l group 0) zeros ∙ no_zeros (length planes) group)
+alone_size above planes row signs line t le are = are.plain t le ∙ plain_size [] planes t (λ group inside. refl)
 
 few_planes : (planes : List ℕ) → All (λ count. count ≤ 15) planes → (g : ℕ) → get_or planes g 0 ≤ 15
 few_planes planes all g = elim (cases_lt g (length planes)) [ inl inside ↦ all g 0 inside | inr past ↦ omega (arith, get_or-past planes g past) ]
@@ -102,10 +96,10 @@ few_planes planes all g = elim (cases_lt g (length planes)) [ inl inside ↦ all
     get_or-past (x ∷ l) zero past = absurd (omega (arith, past))
     get_or-past (x ∷ l) (suc i) past = get_or-past l i (omega (arith, past))
 
-pub regular : (none above planes : List ℕ) (row : ℕ → ℤ) (signs : Bool) (line : LineSizes) → none ≡ replicate (length planes) 0 → All (λ count. count ≤ 15) planes → length planes ≤ 2048
-    → AreLineSizes none above planes row signs line → AreRegular line
-regular none above planes row signs line zeros counts few are =
-    let at : (t : ℕ) → t ≤ 15 → get_or line.plain.all t 0 ≡ left_sum (λ group. get_or planes group 0) t (upto (length planes)) = λ t le. alone_size none above planes row signs line t le zeros are in
+pub regular : (above planes : List ℕ) (row : ℕ → ℤ) (signs : Bool) (line : LineSizes) → All (λ count. count ≤ 15) planes → length planes ≤ 2048
+    → AreLineSizes above planes row signs line → AreRegular line
+regular above planes row signs line counts few are =
+    let at : (t : ℕ) → t ≤ 15 → get_or line.plain.all t 0 ≡ left_sum (λ group. get_or planes group 0) t (upto (length planes)) = λ t le. alone_size above planes row signs line t le are in
     record {
       least = λ t le. omega (arith, are.groups, at t le, left_least (λ group. get_or planes group 0) t (upto (length planes)), length_upto (length planes));
       falls = λ t le. omega (arith, at t (omega (arith, le)), at (t + 1) (omega (arith, le)), left_falls (λ group. get_or planes group 0) t (upto (length planes)));

@@ -1,5 +1,5 @@
 -- The lines of a slice with some of their lowest planes cut off, and their sizes.
-use Rattle.std.specs.Prelude.{◌≡◌, ℕ, ◌-◌, ◌/◌, ◌<◌, max, Bool, true, not, ◌&&◌, if◌then◌else◌, ℤ, slice_index_or}
+use Rattle.std.specs.Prelude.{◌≡◌, ℕ, ◌-◌, ◌/◌, ◌<◌, max, Bool, true, not, ◌&&◌, if◌then◌else◌, ℤ, List, slice_index_or}
 use Rattle.xs_layout.specs.Geometry.{groups_of}
 use Rattle.xs_layout.specs.declared.Quant.{Quant}
 use Rattle.xs_layout.specs.declared.Quant.TheVariants.{DeadZone, Uniform}
@@ -11,7 +11,6 @@ use Rattle.xs_spelling.specs.Counts.{Line, predicts_above, predicted}
 use Rattle.xs_spelling.specs.Sizes.{count_size, data_size, signs_size}
 use Rattle.xs_grammar.specs.Precinct.{is_first_line}
 use Rattle.xs_rate.specs.Content.{planes_of}
-use Rattle.xs_sizes.specs.declared.line.CutSizes.{CutSizes}
 
 -- the planes above a code group where the mode counts them: those of the line above, none above the slice's first line
 abbrev pub planes_above : Header → Rows → ℕ → ℕ → ℕ → ℕ
@@ -39,7 +38,20 @@ sent_line kind row groups t = record {
   value = λ column. sent kind (planes_of row (column / 4)) t (row column);
 }
 
--- the sizes of a line: those of the counts in each mode, of the numbers with signs and without, and of signs apart where they were counted
+-- the bits of a line with some planes cut off: its counts in each mode, its numbers with their signs and without, and the signs apart for each quantiser
+pub record CutSizes : Type 0 where
+  pub counts : List ℕ
+  pub data_in : ℕ
+  pub data_apart : ℕ
+  pub dead_zone : ℕ
+  pub uniform : ℕ
+
+-- the signs that stand apart
+abbrev pub signs_of : Quant → CutSizes → ℕ
+signs_of DeadZone sizes = sizes.dead_zone
+signs_of Uniform sizes = sizes.uniform
+
+-- they are those of a line: those of the counts in each mode, of the numbers with signs and without, and of signs apart where they were counted
 pub record AreCutSizes (h : Header) (rows : Rows) (with_signs : Bool) (t band line : ℕ) (sizes : CutSizes) : Type 0 where
   pub counts : (kind : Quant) (mode : ℕ) → mode < 4 → slice_index_or sizes.counts mode 0 ≡ count_size (cut_line h kind rows t mode band line)
   pub numbers : (kind : Quant) (mode : ℕ) (apart : Bool) → (if apart then sizes.data_apart else sizes.data_in) ≡ data_size apart (cut_line h kind rows t mode band line)

@@ -1,5 +1,7 @@
 -- The bits of a line's counts by the bit planes of its code groups and of those above, at each truncation.
 use Rattle.std.specs.Prelude.{◌≡◌, ℕ, ◌+◌, ◌-◌, ◌*◌, ◌≤◌, max, pos, List, [], length, slice_index_or}
+use Rattle.std.specs.List.{range_with_len, sum_by}
+use Rattle.xs_counts.specs.Known.{residual_size}
 use Rattle.xs_spelling.specs.Counts.{Line}
 use Rattle.xs_spelling.specs.Sizes.{count_size}
 use Rattle.xs_spelling.specs.Written.{ones_of}
@@ -13,7 +15,7 @@ pub record AreLengths (table : List (List ℕ)) : Type 0 where
   pub size : length table ≡ 256
   pub rows : (above planes t : ℕ) → above ≤ 15 → planes ≤ 15 → t ≤ 15 → slice_index_or (slice_index_or table (16 * above + planes) []) t 0 ≡ length_of above planes t
 
--- a line whose counts are predicted from planes above it; where there are none above, each count is predicted to be the truncation
+-- a line whose counts are predicted from planes above it; where there are none above, as in no list, each count is predicted to be the truncation
 abbrev pub plain_line : List ℕ → List ℕ → ℕ → ℕ → Line
 plain_line above planes t mode = record {
   groups = length planes;
@@ -27,3 +29,8 @@ plain_line above planes t mode = record {
 -- the bits of its counts in a mode at each truncation
 abbrev pub AreCountSizes : List ℕ → List ℕ → ℕ → List ℕ → Type 0
 AreCountSizes above planes mode sizes = (t : ℕ) → t ≤ 15 → slice_index_or sizes t 0 ≡ count_size (plain_line above planes t mode)
+
+-- the bits of the counts of some code groups of it from a first one on, and few
+pub record AreMemberBits (above planes : List ℕ) (first count : ℕ) (bits : List ℕ) : Type 0 where
+  pub size : (t : ℕ) → t ≤ 15 → slice_index_or bits t 0 ≡ sum_by (residual_size (plain_line above planes t 0)) (range_with_len first count)
+  pub few : (t : ℕ) → t ≤ 15 → slice_index_or bits t 0 ≤ 240

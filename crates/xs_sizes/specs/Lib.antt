@@ -5,3 +5,4 @@ pub mod Precincts
 pub mod Counted
 pub mod Measured
 pub mod Packed
+pub mod Stepped

@@ -5,9 +5,8 @@ use Rattle.xs_bits.specs.Counts.{AreCounts}
 use Rattle.xs_layout.specs.declared.Quant.{Quant}
 use Rattle.xs_layout.specs.declared.Quant.TheVariants.{DeadZone, Uniform}
 use Rattle.xs_spelling.specs.Sizes.{signs_size}
-use Rattle.xs_sizes.specs.Cut.{sent_line}
+use Rattle.xs_sizes.specs.Cut.{CutSizes, sent_line}
 use Rattle.xs_sizes.specs.Lengths.{AreCountSizes}
-use Rattle.xs_sizes.specs.declared.line.CutSizes.{CutSizes}
 use Rattle.xs_sizes.specs.declared.line.Planes.{Planes}
 use Rattle.xs_sizes.specs.declared.line.LineSizes.{LineSizes}
 
@@ -30,22 +29,20 @@ abbrev pub AreSignSizes : Quant → (ℕ → ℤ) → ℕ → List ℕ → Type 
 AreSignSizes kind row groups sizes = (t : ℕ) → t ≤ 15 → slice_index_or sizes t 0 ≡ signs_size (sent_line kind row groups t)
 
 -- what a row has whose groups have these planes, under those planes
-pub record AreLineSizes (none above planes : List ℕ) (row : ℕ → ℤ) (with_signs : Bool) (line : LineSizes) : Type 0 where
+pub record AreLineSizes (above planes : List ℕ) (row : ℕ → ℤ) (with_signs : Bool) (line : LineSizes) : Type 0 where
   pub groups : line.groups ≡ length planes
-  pub plain : AreCountSizes none planes 0 line.plain.all
-  pub plain_kept : AreCountSizes none planes 2 line.plain.kept
+  pub plain : AreCountSizes [] planes 0 line.plain.all
+  pub plain_kept : AreCountSizes [] planes 2 line.plain.kept
   pub predicted : AreCountSizes above planes 0 line.predicted.all
   pub predicted_kept : AreCountSizes above planes 2 line.predicted.kept
   pub dead_zone : with_signs ≡ true → AreSignSizes DeadZone row (length planes) line.dead_zone
   pub uniform : with_signs ≡ true → AreSignSizes Uniform row (length planes) line.uniform
 
--- the planes of a line, those above it, and none
+-- the planes of a line, and those above it
 pub record ArePlanes (p : Planes) : Type 0 where
   pub counts : AreCounts p.planes.now
   pub above_counts : AreCounts p.above.now
-  pub none_counts : AreCounts p.none.now
   pub above_size : length p.above.now ≡ length p.planes.now
-  pub none_size : length p.none.now ≡ length p.planes.now
   pub few : length p.planes.now ≤ 2048
 
 -- at each truncation the counts have a bit for each code group at least, and no fewer than at the next one; and few
@@ -55,7 +52,8 @@ pub record AreRegular (line : LineSizes) : Type 0 where
   pub few : (t : ℕ) → t ≤ 15 → slice_index_or line.plain.all t 0 < 2 ^ 28
 
 -- the sizes of a row were added behind others
-pub record AreAdded (none above planes : List ℕ) (row : ℕ → ℤ) (with_signs : Bool) (old new : List CutSizes) : Type 0 where
+pub record AreAdded (above planes : List ℕ) (row : ℕ → ℤ) (with_signs : Bool) (old new : List LineSizes) : Type 0 where
   pub line : LineSizes
-  pub sizes : AreLineSizes none above planes row with_signs line
-  pub added : new ≡ old ++ map (cut_sizes_at line) (upto 16)
+  pub regular : AreRegular line
+  pub sizes : AreLineSizes above planes row with_signs line
+  pub added : new ≡ old ++ line ∷ []

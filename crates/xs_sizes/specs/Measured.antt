@@ -5,8 +5,6 @@ use Rattle.xs_lists.specs.Bits.{bytes_for}
 use Rattle.xs_layout.specs.Geometry.{PacketPlace}
 use Rattle.xs_layout.specs.Weighting.{truncation_of}
 use Rattle.xs_layout.specs.declared.Candidate.{Candidate}
-use Rattle.xs_layout.specs.declared.Quant.{Quant}
-use Rattle.xs_layout.specs.declared.Quant.TheVariants.{DeadZone, Uniform}
 use Rattle.xs_layout.specs.declared.Weight.{Weight}
 use Rattle.xs_params.specs.declared.header.Header.{Header}
 use Rattle.xs_params.specs.Rows.{Rows}
@@ -21,7 +19,6 @@ use Rattle.xs_rate.specs.Chosen.{content_at, mode_of}
 use Rattle.xs_sizes.specs.Cut.{cut_line}
 use Rattle.xs_sizes.specs.Counted.{CountsSlice}
 use Rattle.xs_sizes.specs.Precincts.{mode_at, AreAllModes, IsPacketAt}
-use Rattle.xs_sizes.specs.declared.line.CutSizes.{CutSizes}
 use Rattle.xs_sizes.specs.declared.counts.SliceCounts.{SliceCounts}
 use Rattle.xs_sizes.specs.declared.packets.Coding.{Coding}
 use Rattle.xs_sizes.specs.declared.packets.PartBits.{PartBits}
@@ -44,11 +41,6 @@ pub record AreKept (h : Header) (counts : SliceCounts) (signs_apart : Bool) (sli
 
 abbrev pub IsCoding : ℕ → List BandLines → Coding → Type 0
 IsCoding slice bands coding = AreKept coding.geometry.now coding.counts.now coding.signs_apart slice bands
-
--- the signs of a line that stand apart
-abbrev pub signs_of : Quant → CutSizes → ℕ
-signs_of DeadZone sizes = sizes.dead_zone
-signs_of Uniform sizes = sizes.uniform
 
 -- the bits of a line in a mode
 pub record AreLineBits (h : Header) (rows : Rows) (t mode band line : ℕ) (bits : PartBits) : Type 0 where

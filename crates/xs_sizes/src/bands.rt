@@ -1,5 +1,5 @@
 //! The sizes of the lines of a band.
-ghost use Rattle.std.specs.Prelude.{◌≡◌, ℕ, ◌<◌, ◌≤◌, [], length, map, replicate, IfOk, OnOk};
+ghost use Rattle.std.specs.Prelude.{◌≡◌, ℕ, ◌<◌, ◌≤◌, ◌++◌, ◌∷◌, [], length, map, replicate, IfOk, OnOk};
 ghost use Rattle.xs_bits.specs.Counts.{AreCounts};
 ghost use Rattle.xs_lists.specs.Spelling.{upto};
 ghost use Rattle.xs_params.specs.Geometry.{bands_of};
@@ -11,19 +11,18 @@ ghost use Rattle.xs_sizes.specs.Lengths.{AreLengths};
 ghost use Rattle.xs_sizes.specs.LineSizes.{AreAdded};
 ghost use Rattle.xs_sizes.specs.Counted.{IsBandCounted};
 
-use crate::line::{CutSizes, Planes, line_sizes, push_cuts};
+use crate::line::{LineSizes, Planes, line_sizes};
 use std::alloc::Global;
 use xs_geometry::{Geometry, SliceRows};
 use xs_groups::count_planes;
 use xs_io::Memory;
 
-/// The sizes of the lines of a band: the first line, the flags that a line has, and for each line in turn its sizes at the
-/// truncations 0 to 15.
+/// The sizes of the lines of a band: the first line, the flags that a line has, and the lines in turn.
 #[derive(Drop)]
 pub struct BandCounts {
     pub first: u32,
-    pub flags: u32,
-    pub cuts: Vec<CutSizes>,
+    pub flags: u16,
+    pub lines: Vec<LineSizes>,
 }
 
 /// What is counted, and what the bits of counts are.
@@ -35,12 +34,11 @@ pub struct Counting<'a> {
     pub signs: bool,
 }
 
-/// The planes of a line's code groups, of the line above, and none.
+/// The planes of a line's code groups, and of the line above.
 #[derive(Drop)]
 pub struct LineScratch {
     pub planes: Vec<u8>,
     pub above: Vec<u8>,
-    pub none: Vec<u8>,
 }
 
 impl LineScratch {
@@ -49,7 +47,6 @@ impl LineScratch {
         LineScratch {
             planes: Vec::new(alloc),
             above: Vec::new(alloc),
-            none: Vec::new(alloc),
         }
     }
 }
@@ -59,7 +56,7 @@ pub fn count_band(
     counting: &Counting,
     band: u32,
     scratch: &mut LineScratch,
-    room: Vec<CutSizes>,
+    room: Vec<LineSizes>,
 ) -> Result<BandCounts, Memory>
     requires lines { (slice : ℕ) × AreLinesOf counting.now.geometry.now slice counting.now.rows.now }
     requires band { band < bands_of counting.now.geometry.now }
@@ -71,14 +68,14 @@ pub fn count_band(
     let groups = (counting.geometry.band_width(band) + 3) / 4;
     let (first, end) = counting.rows.lines(band);
     reset(scratch, groups)?;
-    let mut cuts = room;
+    let mut lines = room;
     'lines: for line in first..end {
-        add_line(&mut cuts, scratch, counting, counting.rows.row(band, line))?;
+        add_line(&mut lines, scratch, counting, counting.rows.row(band, line))?;
     }
     Ok(BandCounts {
         first,
-        flags: (groups + 7) / 8,
-        cuts,
+        flags: ((groups + 7) / 8) as u16,
+        lines,
     })
 }
 
@@ -86,11 +83,9 @@ pub fn count_band(
 fn reset(scratch: &mut LineScratch, groups: u32) -> Result<(), Memory>
     ensures planes { OnOk result (scratch.new.planes.items ≡ replicate groups 0) }
     ensures above { OnOk result (scratch.new.above.items ≡ replicate groups 0) }
-    ensures none { OnOk result (scratch.new.none.items ≡ replicate groups 0) }
 {
     set_zeros(&mut scratch.planes, groups)?;
-    set_zeros(&mut scratch.above, groups)?;
-    set_zeros(&mut scratch.none, groups)
+    set_zeros(&mut scratch.above, groups)
 }
 
 // So many zeros in place of what is there.
@@ -103,7 +98,7 @@ fn set_zeros(items: &mut Vec<u8>, count: u32) -> Result<(), Memory>
 
 // Adds the sizes of a line, whose planes are then those above.
 fn add_line(
-    cuts: &mut Vec<CutSizes>,
+    lines: &mut Vec<LineSizes>,
     scratch: &mut LineScratch,
     counting: &Counting,
     row: &[i32],
@@ -113,22 +108,26 @@ fn add_line(
     requires few { length scratch.old.planes.items ≤ 2048 }
     requires above { length scratch.old.above.items ≡ length scratch.old.planes.items }
     requires counts { AreCounts scratch.old.above.items }
-    requires none { scratch.old.none.items ≡ replicate (length scratch.old.planes.items) 0 }
-    ensures added { OnOk result (AreAdded scratch.old.none.items scratch.old.above.items (map (planes_of (entries_of row.now)) (upto (length scratch.old.planes.items))) (entries_of row.now) counting.now.signs cuts.old.items cuts.new.items) }
+    ensures added { OnOk result (AreAdded scratch.old.above.items (map (planes_of (entries_of row.now)) (upto (length scratch.old.planes.items))) (entries_of row.now) counting.now.signs lines.old.items lines.new.items) }
     ensures above { OnOk result (scratch.new.above.items ≡ map (planes_of (entries_of row.now)) (upto (length scratch.old.planes.items))) }
     ensures size { OnOk result (length scratch.new.planes.items ≡ length scratch.old.planes.items) }
-    ensures none { OnOk result (scratch.new.none.items ≡ scratch.old.none.items) }
 {
     fill(scratch, row);
     let planes = Planes {
         planes: scratch.planes.as_slice(),
         above: scratch.above.as_slice(),
-        none: scratch.none.as_slice(),
     };
     let line = line_sizes(counting.table, &planes, row, counting.signs);
-    push_cuts(cuts, &line)?;
+    push_line(lines, line)?;
     rise(scratch);
     Ok(())
+}
+
+// Appends the sizes of a line.
+fn push_line(lines: &mut Vec<LineSizes>, line: LineSizes) -> Result<(), Memory>
+    ensures { OnOk result (lines.new.items ≡ lines.old.items ++ line ∷ []) }
+{
+    lines.push(line).map_err(|_| Memory)
 }
 
 // Counts the planes of a row.
@@ -138,7 +137,6 @@ fn fill(scratch: &mut LineScratch, row: &[i32])
     ensures planes { scratch.new.planes.items ≡ map (planes_of (entries_of row.now)) (upto (length scratch.old.planes.items)) }
     ensures counts { AreCounts scratch.new.planes.items }
     ensures above { scratch.new.above.items ≡ scratch.old.above.items }
-    ensures none { scratch.new.none.items ≡ scratch.old.none.items }
 {
     count_planes(row, scratch.planes.as_mut_slice());
 }
@@ -148,7 +146,6 @@ fn rise(scratch: &mut LineScratch)
     requires { length scratch.old.above.items ≡ length scratch.old.planes.items }
     ensures planes { scratch.new.planes.items ≡ scratch.old.planes.items }
     ensures above { scratch.new.above.items ≡ scratch.old.planes.items }
-    ensures none { scratch.new.none.items ≡ scratch.old.none.items }
 {
     copy(scratch.planes.as_slice(), scratch.above.as_mut_slice());
 }

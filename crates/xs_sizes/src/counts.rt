@@ -8,7 +8,7 @@ ghost use Rattle.xs_sizes.specs.Counted.{AreBandsCounted, AreCountsOf};
 
 use crate::bands::{BandCounts, Counting, LineScratch, count_band};
 use crate::lengths::length_table;
-use crate::line::CutSizes;
+use crate::line::LineSizes;
 use crate::precincts::{PrecinctCounts, keep_precincts};
 use std::alloc::Global;
 use xs_geometry::{Geometry, SliceRows};
@@ -122,7 +122,7 @@ fn count_bands(
 {
     let mut bands = Vec::new(alloc);
     'bands: for band in 0..counting.geometry.bands() {
-        let room = empty_cuts(alloc, spare);
+        let room = empty_lines(alloc, spare);
         let counts = count_band(counting, band, scratch, room)?;
         push_band(&mut bands, counts)?;
     }
@@ -130,14 +130,14 @@ fn count_bands(
 }
 
 // The list of a band that is no longer needed, or a new one, with nothing in it.
-fn empty_cuts(alloc: Global, spare: &mut Vec<BandCounts>) -> Vec<CutSizes>
+fn empty_lines(alloc: Global, spare: &mut Vec<BandCounts>) -> Vec<LineSizes>
     ensures { result.items ≡ [] }
 {
     match spare.pop() {
         Some(counts) => {
-            let mut cuts = counts.cuts;
-            cuts.clear();
-            cuts
+            let mut lines = counts.lines;
+            lines.clear();
+            lines
         }
         None => Vec::new(alloc),
     }

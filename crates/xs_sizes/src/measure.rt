@@ -74,8 +74,8 @@ fn both(one: bool, other: bool) -> bool
     one && other
 }
 
-// What is kept of a precinct.
-fn kept_of(counts: &SliceCounts, precinct: u32) -> &PrecinctCounts
+/// What is kept of a precinct.
+pub fn kept_of(counts: &SliceCounts, precinct: u32) -> &PrecinctCounts
     requires from { counts.now.first ≤ precinct }
     requires there { precinct < counts.now.first + length counts.now.precincts.items }
     ensures { (none : PrecinctCounts) → result.now ≡ slice_index_or counts.now.precincts.items (precinct - counts.now.first) none }
@@ -113,8 +113,8 @@ pub fn precinct_modes(coding: &Coding, precinct: u32, cuts: &[u8; 30]) -> [u8; 3
     modes
 }
 
-// The first precinct of a slice, and one past the last.
-fn precincts_in(geometry: &Geometry, slice: u32) -> (u32, u32)
+/// The first precinct of a slice, and one past the last.
+pub fn precincts_in(geometry: &Geometry, slice: u32) -> (u32, u32)
     requires { slice < slice_count geometry.now }
     ensures first { result.0 ≡ slice * geometry.now.hsl }
     ensures end { result.1 ≡ min ((slice + 1) * geometry.now.hsl) (precinct_count geometry.now) }
@@ -129,7 +129,8 @@ pub fn slice_size(coding: &Coding, slice: u32, cuts: &[u8; 30]) -> u64
     requires slice { slice < slice_count coding.now.geometry.now }
     requires coding { (bands : List BandLines) × IsCoding slice bands coding.now }
     requires cuts { All (λ t. t ≤ 15) cuts.now }
-    ensures { (bands : List BandLines) (weights : List Weight) (candidate : Candidate) → IsCodedAt slice bands weights candidate coding.now cuts.now → result ≡ size_at (header_in coding.now weights) (rows_held bands) slice candidate }
+    ensures size { (bands : List BandLines) (weights : List Weight) (candidate : Candidate) → IsCodedAt slice bands weights candidate coding.now cuts.now → result ≡ size_at (header_in coding.now weights) (rows_held bands) slice candidate }
+    ensures few { result ≤ 2 ^ 56 }
 {
     let (first, end) = precincts_in(coding.geometry, slice);
     let mut bytes = SLICE_HEAD;

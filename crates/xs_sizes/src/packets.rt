@@ -1,15 +1,15 @@
 //! The bits of the parts of packets, and their bytes.
-ghost use Rattle.std.specs.Prelude.{◌≡◌, ℕ, ◌+◌, ◌<◌, ◌≤◌, ◌^◌, List, All, if◌then◌else◌, length, slice_index_or};
+ghost use Rattle.std.specs.Prelude.{◌≡◌, ℕ, ◌+◌, ◌<◌, ◌≤◌, ◌^◌, List, All, length, slice_index_or};
 ghost use Rattle.xs_geometry.specs.SliceLines.{BandLines, HasLine, rows_held};
 ghost use Rattle.xs_layout.specs.Geometry.{PacketPlace};
 ghost use Rattle.xs_layout.specs.declared.Candidate.{Candidate};
 ghost use Rattle.xs_layout.specs.declared.Weight.{Weight};
 ghost use Rattle.xs_lists.specs.Bits.{bytes_for as bytes_of_bits};
-ghost use Rattle.xs_sizes.specs.Measured.{AreLineBits, ArePacketBits, IsCodedAt, IsCoding, IsPacketOf, header_in, parts_fit, parts_size, packet_fits_at, packet_size_at, signs_of};
+ghost use Rattle.xs_sizes.specs.Measured.{AreLineBits, ArePacketBits, IsCodedAt, IsCoding, IsPacketOf, header_in, parts_fit, parts_size, packet_fits_at, packet_size_at};
 
 use crate::counts::SliceCounts;
-use crate::line::CutSizes;
-use crate::modes::{counts_in, flags_in, sizes_at};
+use crate::line::{counts_at, numbers_at, signs_at};
+use crate::modes::{flags_in, line_at};
 use crate::precincts::{PacketBands, PrecinctCounts};
 use xs_geometry::Geometry;
 use xs_layout::Quant;
@@ -42,29 +42,6 @@ pub struct Measured {
     pub fits_fields: bool,
 }
 
-// The bits of its numbers, with their signs or without.
-fn numbers_in(sizes: &CutSizes, signs_apart: bool) -> u64
-    ensures numbers { result ≡ (if signs_apart then sizes.now.data_apart else sizes.now.data_in) }
-    ensures few { result < 2 ^ 32 }
-{
-    if signs_apart {
-        u64::from(sizes.data_apart)
-    } else {
-        u64::from(sizes.data_in)
-    }
-}
-
-// Its signs where they stand apart.
-fn signs_in(sizes: &CutSizes, quant: Quant) -> u64
-    ensures signs { result ≡ signs_of quant sizes.now }
-    ensures few { result < 2 ^ 32 }
-{
-    match quant {
-        Quant::DeadZone => u64::from(sizes.dead_zone),
-        Quant::Uniform => u64::from(sizes.uniform),
-    }
-}
-
 // The bits of a line with t planes cut off, in a mode.
 fn line_bits(coding: &Coding, at: (u32, u32), t: u8, mode: u8) -> PartBits
     requires coding { (slice : ℕ) × (bands : List BandLines) × IsCoding slice bands coding.now × HasLine bands at.0 at.1 }
@@ -74,12 +51,12 @@ fn line_bits(coding: &Coding, at: (u32, u32), t: u8, mode: u8) -> PartBits
     ensures few { (result.flags < 2 ^ 32) × (result.counts < 2 ^ 32) × (result.numbers < 2 ^ 32) × (result.signs < 2 ^ 32) }
 {
     let counts = &coding.counts.bands[at.0 as usize];
-    let sizes = sizes_at(counts, at.1, t);
+    let line = line_at(counts, at.1);
     PartBits {
-        flags: flags_in(counts, mode),
-        counts: counts_in(sizes, mode),
-        numbers: numbers_in(sizes, coding.signs_apart),
-        signs: signs_in(sizes, coding.quant),
+        flags: u64::from(flags_in(counts, mode)),
+        counts: counts_at(line, t, mode),
+        numbers: numbers_at(line, t, coding.signs_apart),
+        signs: signs_at(line, t, coding.quant),
     }
 }
 
@@ -145,7 +122,7 @@ fn sized(bits: PartBits, signs_apart: bool) -> Measured
     requires few { (bits.flags < 2 ^ 37) × (bits.counts < 2 ^ 37) × (bits.numbers < 2 ^ 37) × (bits.signs < 2 ^ 37) }
     ensures bytes { result.bytes ≡ parts_size signs_apart bits }
     ensures fits { result.fits_fields ≡ parts_fit signs_apart bits }
-    ensures few { result.bytes ≤ 2 ^ 37 }
+    ensures few { result.bytes ≤ 2 ^ 36 + 6 }
 {
     let counts = bytes_for(bits.counts);
     let data = bytes_for(bits.numbers);
@@ -172,7 +149,7 @@ pub fn packet_size(
     requires cuts { All (λ t. t ≤ 15) cuts.now }
     ensures bytes { (slice : ℕ) (bands : List BandLines) (weights : List Weight) (candidate : Candidate) (precinct : ℕ) (place : PacketPlace) → IsCodedAt slice bands weights candidate coding.now cuts.now → IsPacketOf slice bands precinct place coding.now kept.now packet → result.bytes ≡ packet_size_at (header_in coding.now weights) (rows_held bands) candidate precinct place }
     ensures fits { (slice : ℕ) (bands : List BandLines) (weights : List Weight) (candidate : Candidate) (precinct : ℕ) (place : PacketPlace) → IsCodedAt slice bands weights candidate coding.now cuts.now → IsPacketOf slice bands precinct place coding.now kept.now packet → result.fits_fields ≡ packet_fits_at (header_in coding.now weights) (rows_held bands) candidate precinct place }
-    ensures few { result.bytes ≤ 2 ^ 37 }
+    ensures few { result.bytes ≤ 2 ^ 36 + 6 }
 {
     sized(packet_bits(coding, kept, packet, cuts), coding.signs_apart)
 }

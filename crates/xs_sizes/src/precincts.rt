@@ -1,5 +1,5 @@
 //! The packets of a precinct, and the modes of its bands.
-ghost use Rattle.std.specs.Prelude.{◌≡◌, ℕ, ◌-◌, ◌*◌, ◌<◌, ◌≤◌, ◌++◌, ◌∷◌, [], length, IfOk, OnOk};
+ghost use Rattle.std.specs.Prelude.{◌≡◌, ℕ, ◌-◌, ◌<◌, ◌≤◌, ◌++◌, ◌∷◌, [], length, IfOk, OnOk};
 ghost use Rattle.std.specs.List.{Contains};
 ghost use Rattle.xs_params.specs.Geometry.{bands_of, lines_of, precinct_count, precincts_of};
 ghost use Rattle.xs_geometry.specs.SliceLines.{AreLinesOf, end_line_of, first_line_of, rows_held};
@@ -174,7 +174,7 @@ fn lines_in(counting: &Counting, counts: &BandCounts, at: (u32, u32)) -> (u32, u
     ensures order { result.0 ≤ result.1 }
     ensures few { result.1 ≤ 8192 }
     ensures from { counts.now.first ≤ result.0 }
-    ensures there { 16 * (result.1 - counts.now.first) ≤ length counts.now.cuts.items }
+    ensures there { result.1 - counts.now.first ≤ length counts.now.lines.items }
 {
     let _height = counting.geometry.band_height(at.1);
     counting.geometry.lines(at.0, at.1)

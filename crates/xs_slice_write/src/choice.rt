@@ -11,11 +11,8 @@ use xs_faults::Budget;
 use xs_geometry::Geometry;
 use xs_layout::{Candidate, Quant};
 use xs_params::Weights;
-use xs_sizes::{Coding, SliceCounts, cuts_of, slice_fits, slice_size};
+use xs_sizes::{Coding, SliceCounts, change_of, cuts_of, slice_fits, slice_size, slice_step};
 use xs_weights::{candidate, candidate_count, coarsest};
-
-/// No truncation.
-const NONE: u8 = 255;
 
 /// The first candidate at which the slice is within its share and each length has room in its field; or, exactly where the
 /// slice is over its share at the coarsest, the bytes that it then has. At the coarsest each length has room. Takes no memory.
@@ -50,7 +47,8 @@ pub fn choose(
     Ok(first_fitting(&coding, slice, weights, share_bytes).unwrap_or(last))
 }
 
-// The first candidate at which the slice fits. One with the truncations of the last one is not measured again.
+// The first candidate at which the slice fits. Its bytes are those at the candidate before and what the step changes; where they are
+// within the share, it is asked whether each length has room in its field.
 fn first_fitting(coding: &Coding, slice: u32, weights: &Weights, share: u64) -> Option<Candidate>
     requires slice { slice < slice_count coding.now.geometry.now }
     requires coding { (bands : List BandLines) × IsCoding slice bands coding.now }
@@ -59,14 +57,16 @@ fn first_fitting(coding: &Coding, slice: u32, weights: &Weights, share: u64) -> 
     requires gains { All (λ (weight : Weight). weight.gain ≤ 15) weights.now }
     ensures { (bands : List BandLines) → IsCoding slice bands coding.now → result ≡ find (fits_at (header_in coding.now weights.now) (rows_held bands) share slice) (candidates (header_in coding.now weights.now)) }
 {
-    let mut seen = [NONE; 30];
+    let mut seen = cuts_of(weights, Candidate { q: 0, r: 0 });
+    let mut size = slice_size(coding, slice, &seen);
     'list: for number in 0..candidate_count(weights) {
         let next = candidate(weights, number).unwrap();
         let cuts = cuts_of(weights, next);
-        if cuts != seen && slice_fits(coding, slice, &cuts, share) {
+        size = slice_step(coding, slice, &change_of(&seen, &cuts), size);
+        seen = cuts;
+        if size <= share && slice_fits(coding, slice, &cuts, share) {
             return Some(next);
         }
-        seen = cuts;
     }
     None
 }

@@ -1,13 +1,11 @@
 use Rattle.std.proofs.Common.{◌≡◌, ◌≤◌, length, map, sym, ap, subst, ◌∙◌, arith}
-use Rattle.std.specs.Prelude.{replicate}
-use Rattle.std.proofs.lemmas.List.{length-replicate}
-use Rattle.std.proofs.lemmas.List.Elements.{All-from_recursion}
 use Rattle.std.proofs.lemmas.List.FromFn.{length-map-range_with_len}
 use Rattle.xs_bits.specs.Counts.{AreCounts}
 use Rattle.xs_lists.specs.Spelling.{upto}
 use Rattle.xs_signal.specs.Lines.{entries_of}
 use Rattle.xs_rate.specs.Content.{planes_of}
-use Rattle.xs_sizes.proofs.Plain.{regular, zeros_few}
+use Rattle.xs_sizes.specs.LineSizes.{AreLineSizes}
+use Rattle.xs_sizes.proofs.Plain.{regular}
 use Rattle.xs_sizes.proofs.bands.add_line.Goals as goal
 
 pub line_sizes-line-requires-clause-planes : goal.line_sizes-line-requires-clause-planes
@@ -15,15 +13,11 @@ line_sizes-line-requires-clause-planes c =
     let n = length c.args.scratch.now.planes.items in
     let size : length c.fill.new.scratch.planes.items ≡ n = ap length c.fill.ensures.planes ∙ length-map-range_with_len (planes_of (entries_of c.args.row.now)) 0 n in
     let own : length c.as_slice.result.now ≡ n = ap length c.as_slice.ensures.value ∙ size in
-    let zeros = c.as_slice-3.ensures.value ∙ c.fill.ensures.none ∙ c.requires.none in
-    let none : length c.as_slice-3.result.now ≡ length c.args.scratch.now.none.items = ap length (c.as_slice-3.ensures.value ∙ c.fill.ensures.none) in
     let above : length c.as_slice-2.result.now ≡ length c.args.scratch.now.above.items = ap length (c.as_slice-2.ensures.value ∙ c.fill.ensures.above) in
     record {
       counts = subst (λ l. AreCounts l) (sym c.as_slice.ensures.value) c.fill.ensures.counts;
       above_counts = subst (λ l. AreCounts l) (sym (c.as_slice-2.ensures.value ∙ c.fill.ensures.above)) c.requires.counts;
-      none_counts = subst (λ l. AreCounts l) (sym zeros) (All-from_recursion (λ count. count ≤ 15) (replicate n 0) (zeros_few n));
       above_size = above ∙ c.requires.above ∙ sym own;
-      none_size = none ∙ ap length c.requires.none ∙ length-replicate n 0 ∙ sym own;
       few = omega (arith, own, c.requires.few);
     }
 
@@ -34,14 +28,19 @@ line_sizes-line-requires-clause-row c =
     let seen = c.as_slice.ensures.value ∙ c.fill.ensures.planes in
     seen ∙ ap (λ k. map f (upto k)) (sym (ap length seen ∙ length-map-range_with_len f 0 n))
 
-pub push_cuts-requires : goal.push_cuts-requires
-push_cuts-requires c =
+pub returns-clause-added : goal.returns-clause-added
+returns-clause-added c =
     let f = planes_of (entries_of c.args.row.now) in
     let n = length c.args.scratch.now.planes.items in
-    let own : length c.as_slice.result.now ≡ n = ap length (c.as_slice.ensures.value ∙ c.fill.ensures.planes) ∙ length-map-range_with_len f 0 n in
+    let seen = c.as_slice.ensures.value ∙ c.fill.ensures.planes in
+    let size : length c.as_slice.result.now ≡ n = ap length seen ∙ length-map-range_with_len f 0 n in
+    let above = c.as_slice-2.ensures.value ∙ c.fill.ensures.above in
     record {
-      room = regular c.as_slice-3.result.now c.as_slice-2.result.now c.as_slice.result.now (entries_of c.args.row.now) c.args.counting.now.signs c.line_sizes-line.result
-          (c.as_slice-3.ensures.value ∙ c.fill.ensures.none ∙ c.requires.none ∙ ap (λ k. replicate k 0) (sym own)) (subst (λ l. AreCounts l) (sym c.as_slice.ensures.value) c.fill.ensures.counts) (omega (arith, own, c.requires.few)) c.line_sizes-line.ensures;
+      line = c.line_sizes-line.result;
+      regular = regular c.as_slice-2.result.now c.as_slice.result.now (entries_of c.args.row.now) c.args.counting.now.signs c.line_sizes-line.result (subst (λ l. AreCounts l) (sym c.as_slice.ensures.value) c.fill.ensures.counts) (omega (arith, size, c.requires.few)) c.line_sizes-line.ensures;
+      sizes = subst (λ l. AreLineSizes l (map f (upto n)) (entries_of c.args.row.now) c.args.counting.now.signs c.line_sizes-line.result) above
+          (subst (λ l. AreLineSizes c.as_slice-2.result.now l (entries_of c.args.row.now) c.args.counting.now.signs c.line_sizes-line.result) seen c.line_sizes-line.ensures);
+      added = c.in_ok-push_line.ensures;
     }
 
 pub rise-requires : goal.rise-requires

@@ -26,9 +26,8 @@ lines-init c =
       size = ap length c.in_ok-reset.ensures.planes ∙ length-replicate n 0;
       above_size = ap length c.in_ok-reset.ensures.above ∙ length-replicate n 0;
       above_counts = subst (λ l. AreCounts l) (sym c.in_ok-reset.ensures.above) (All-from_recursion (λ count. count ≤ 15) (replicate n 0) (zeros_few n));
-      none = c.in_ok-reset.ensures.none;
       above = λ group inside. ap (λ l. slice_index_or l group 0) c.in_ok-reset.ensures.above ∙ get_or-replicate n group 0 0 inside ∙ sym (first_zero first (planes_of (rows_held c.args.counting.now.rows.now c.args.band (first - 1)) group));
-      cuts = band_start c.args.counting.now.geometry.now (rows_held c.args.counting.now.rows.now) c.args.counting.now.signs c.args.band first c.args.room.items c.requires.empty;
+      lines = band_start c.args.counting.now.geometry.now (rows_held c.args.counting.now.rows.now) c.args.counting.now.signs c.args.band first c.args.room.items c.requires.empty;
     }
 
 pub lines-preserved : goal.lines-preserved
@@ -51,15 +50,14 @@ lines-preserved c =
       size = c.in_ok-add_line.ensures.size ∙ c.lines.invariant.size;
       above_size = ap length above ∙ length-map-range_with_len f 0 n;
       above_counts = subst (λ l. AreCounts l) (sym above) (All-from_recursion (λ count. count ≤ 15) (map f (upto n)) (all_planes (rows_held bands band line) 0 n));
-      none = c.in_ok-add_line.ensures.none ∙ c.lines.invariant.none;
       above = λ group inside. (let none : 0 + group ≡ group = omega arith in let back : line ≡ line + 1 - 1 = omega arith in
           next_planes first line _ _ c.lines.invariant.from (ap (λ l. slice_index_or l group 0) above ∙ get_or-map-range_with_len f 0 n group group 0 inside none ∙ ap (λ k. planes_of (rows_held bands band k) group) back));
-      cuts = subst (λ k. AreBandSizes h (rows_held bands) c.args.counting.now.signs band k (line + 1) c.add_line.new.cuts.items) (sym c.lines-first.ensures.first)
-          (row_added h c.requires.lines.0 bands band line n c.args.counting.now.signs c.lines.scratch.none.items c.lines.scratch.above.items c.lines.cuts.items c.add_line.new.cuts.items lines has groups c.lines.invariant.none
+      lines = subst (λ k. AreBandSizes h (rows_held bands) c.args.counting.now.signs band k (line + 1) c.add_line.new.lines.items) (sym c.lines-first.ensures.first)
+          (row_added h c.requires.lines.0 bands band line n c.args.counting.now.signs c.lines.scratch.above.items c.lines.lines.items c.add_line.new.lines.items lines has groups
           (λ group inside. subst (λ k. slice_index_or c.lines.scratch.above.items group 0 ≡ (if nat_eq line k then 0 else planes_of (rows_held bands band (line - 1)) group)) c.lines-first.ensures.first (c.lines.invariant.above group inside))
-          (subst (λ k. AreAdded c.lines.scratch.none.items c.lines.scratch.above.items (map f (upto k)) (rows_held bands band line) c.args.counting.now.signs c.lines.cuts.items c.add_line.new.cuts.items) c.lines.invariant.size
-          (subst (λ r. AreAdded c.lines.scratch.none.items c.lines.scratch.above.items (map (planes_of (entries_of r)) (upto old)) (entries_of r) c.args.counting.now.signs c.lines.cuts.items c.add_line.new.cuts.items) c.row.ensures c.in_ok-add_line.ensures.added))
-          (subst (λ k. AreBandSizes h (rows_held bands) c.args.counting.now.signs band k line c.lines.cuts.items) c.lines-first.ensures.first c.lines.invariant.cuts));
+          (subst (λ k. AreAdded c.lines.scratch.above.items (map f (upto k)) (rows_held bands band line) c.args.counting.now.signs c.lines.lines.items c.add_line.new.lines.items) c.lines.invariant.size
+          (subst (λ r. AreAdded c.lines.scratch.above.items (map (planes_of (entries_of r)) (upto old)) (entries_of r) c.args.counting.now.signs c.lines.lines.items c.add_line.new.lines.items) c.row.ensures c.in_ok-add_line.ensures.added))
+          (subst (λ k. AreBandSizes h (rows_held bands) c.args.counting.now.signs band k line c.lines.lines.items) c.lines-first.ensures.first c.lines.invariant.lines));
     }
 
 pub returns : goal.returns
@@ -74,6 +72,6 @@ returns c =
     record {
       first = c.lines-first.ensures.first;
       flags = ap (λ k. k / 8) flags;
-      lines = subst (λ k. AreBandSizes h (rows_held bands) c.args.counting.now.signs band k ((lines_at bands band).first + length (lines_at bands band).rows) c.lines.cuts.items) c.lines-first.ensures.first
-          (subst (λ k. AreBandSizes h (rows_held bands) c.args.counting.now.signs band c.lines-first.result.0 k c.lines.cuts.items) end c.lines.invariant.cuts);
+      lines = subst (λ k. AreBandSizes h (rows_held bands) c.args.counting.now.signs band k ((lines_at bands band).first + length (lines_at bands band).rows) c.lines.lines.items) c.lines-first.ensures.first
+          (subst (λ k. AreBandSizes h (rows_held bands) c.args.counting.now.signs band c.lines-first.result.0 k c.lines.lines.items) end c.lines.invariant.lines);
     }

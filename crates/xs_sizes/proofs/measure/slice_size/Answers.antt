@@ -35,7 +35,7 @@ precincts-preserved c = record {
       omega (arith, own, more, c.precincts.invariant.left bands weights candidate coded));
 }
 
-pub returns : goal.returns
-returns c bands weights candidate coded =
+pub returns-clause-size : goal.returns-clause-size
+returns-clause-size c bands weights candidate coded =
     let none = ap (sum_by (precinct_size_at (header_in c.args.coding.now weights) (rows_held bands) candidate)) (range_end c.precincts.precinct c.precincts_in-first.result.1 (omega (arith, c.precincts-test.false))) in
     omega (arith, none, c.precincts.invariant.left bands weights candidate coded)

@@ -11,5 +11,5 @@ abbrev pub invariant-cuts : goal.invariant-cuts
 invariant-cuts l = record {
   size : length l.modes ≡ 16;
   done : (h : Header) (bands : List BandLines) (with_signs : Bool) (band : ℕ) → IsBandCounted h bands with_signs band l.fn.counts
-      → (j : ℕ) → j < l.t → slice_index_or l.modes j 0 ≡ fewest (λ mode. lines_bits h (rows_held bands) band j mode (range_with_len l.lines.0 (l.lines.1 - l.lines.0)));
+      → (j : ℕ) → j < l.t → slice_index_or l.modes j 0 ≡ fewest (λ mode. lines_bits h (rows_held bands) band j mode (range_with_len l.fn.lines.0 (l.fn.lines.1 - l.fn.lines.0)));
 }

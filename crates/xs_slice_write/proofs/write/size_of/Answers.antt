@@ -9,6 +9,6 @@ use Rattle.xs_slice_write.proofs.write.size_of.Goals as goal
 pub returns : goal.returns
 returns c = λ bands known.
     (let h = c.args.counted.now.header.now in
-    c.slice_size.ensures bands h.weights c.args.plan.candidate (record { coded = known.kept; count = known.weights ∙ ap bands_of (sym known.geometry); truncations = c.cuts_of.ensures.cuts })
+    c.slice_size.ensures.size bands h.weights c.args.plan.candidate (record { coded = known.kept; count = known.weights ∙ ap bands_of (sym known.geometry); truncations = c.cuts_of.ensures.cuts })
     ∙ ap (λ (g : Header). size_at (coding_header g h.weights h.signs_apart h.quant) (rows_held bands) c.args.plan.slice c.args.plan.candidate) known.geometry
     ∙ size_coded h (rows_held bands) c.args.plan.slice c.args.plan.candidate known.heads)

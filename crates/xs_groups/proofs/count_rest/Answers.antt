@@ -1,4 +1,4 @@
-use Rattle.std.proofs.Common.{◌≡◌, ◌<◌, ◌≤◌, length, map, sym, ap, subst, ◌∙◌, arith}
+use Rattle.std.proofs.Common.{◌≡◌, ◌<◌, ◌≤◌, length, map, sym, subst, ◌∙◌, arith}
 use Rattle.std.specs.Prelude.{All}
 use Rattle.std.proofs.lemmas.List.{take_all}
 use Rattle.std.proofs.lemmas.List.Elements.{All-from_recursion}
@@ -6,12 +6,12 @@ use Rattle.xs_lists.specs.Spelling.{upto}
 use Rattle.xs_signal.specs.Lines.{entries_of}
 use Rattle.xs_rate.specs.Content.{planes_of}
 use Rattle.xs_groups.proofs.Planes.{counts_more, all_planes}
-use Rattle.xs_groups.proofs.count_planes.Goals as goal
+use Rattle.xs_groups.proofs.count_rest.Goals as goal
 
 pub groups-preserved : goal.groups-preserved
 groups-preserved c =
     let inside : c.groups.group < length c.groups.planes = omega (arith, c.groups.auto.planes, c.groups-test.true) in
-    record { done = counts_more c.groups.planes (planes_of (entries_of c.args.row.now)) c.groups.group c.planes_at.result inside c.groups.invariant.done c.planes_at.ensures.planes }
+    record { done = counts_more c.groups.planes (planes_of (entries_of c.args.row.now)) c.groups.group c.planes_at.result inside c.groups.invariant.done c.planes_at.ensures }
 
 pub returns-clause-counts : goal.returns-clause-counts
 returns-clause-counts c =
