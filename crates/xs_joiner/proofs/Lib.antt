@@ -1,0 +1,12 @@
+pub mod Bounds
+pub mod Lifted
+pub mod Lifts
+pub mod Levels
+pub mod Counts
+pub mod Chains
+pub mod Depth
+pub mod Midways
+pub mod Steps
+pub mod Built
+pub mod Begun
+pub mod Near
