@@ -34,6 +34,14 @@ impl Board {
         Ok((Board { lanes, head, units }, BoardPass { pass, note }))
     }
 
+    /// How many units it has.
+    pub fn units(&self) -> u32
+        ensures count { result ≡ unit_count self.now }
+        ensures some { 0 < result }
+    {
+        self.units
+    }
+
     /// A pass for another thread, with half of this one's share. It knows what this one saw.
     pub fn split(&self, pass: &mut BoardPass) -> BoardPass
         requires pass { IsBoardPass self.now pass.old }

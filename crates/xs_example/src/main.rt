@@ -5,6 +5,7 @@
 use std::alloc::Global;
 use std::io;
 use std::process::ExitCode;
+use std::thread::Threads;
 use xs_capture::{sort_pictures, write_frame};
 use xs_io::{Octets, OpenGate};
 use xs_pack::{Datagrams, pack};
@@ -75,7 +76,7 @@ fn lose(alloc: Global, packets: &Datagrams, first: u32, capture: &mut Octets) ->
 }
 
 // What is received of the first picture of a capture.
-fn receive(alloc: Global, capture: &[u8]) -> Option<Received> {
+fn receive<T: Threads + Sync>(threads: &T, alloc: Global, capture: &[u8]) -> Option<Received> {
     if capture.len() >= 1 << 32 {
         return None;
     }
@@ -88,7 +89,8 @@ fn receive(alloc: Global, capture: &[u8]) -> Option<Received> {
     let Ok(parts) = sorted.parts(0, 1) else {
         return None;
     };
-    receive_picture(alloc, parts, 1, &OpenGate).ok()
+    let reception = receive_picture(threads, alloc, parts, 1, &OpenGate).ok()?;
+    Some(reception.received)
 }
 
 // Prints what is received over a path.
@@ -114,7 +116,7 @@ fn say(rt: &HostRuntime, path: &str, received: &Received) -> io::Result<()> {
 }
 
 // Sends and receives. None where memory is wanting or the output fails.
-fn show(rt: &HostRuntime) -> Option<()> {
+fn show<T: Threads + Sync>(rt: &HostRuntime, threads: &T) -> Option<()> {
     let alloc = rt.alloc();
     let packets = send(alloc, &settings(alloc)?, &GREY)?;
     let mut one = Octets::new(alloc);
@@ -128,12 +130,17 @@ fn show(rt: &HostRuntime) -> Option<()> {
         other.len()
     )
     .ok()?;
-    say(rt, "one path", &receive(alloc, one.as_slice())?).ok()?;
-    say(rt, "other path", &receive(alloc, other.as_slice())?).ok()?;
+    say(rt, "one path", &receive(threads, alloc, one.as_slice())?).ok()?;
+    say(
+        rt,
+        "other path",
+        &receive(threads, alloc, other.as_slice())?,
+    )
+    .ok()?;
     one.extend(other.as_slice()).ok()?;
-    say(rt, "both paths", &receive(alloc, one.as_slice())?).ok()
+    say(rt, "both paths", &receive(threads, alloc, one.as_slice())?).ok()
 }
 
 fn main(rt: HostRuntime) -> ExitCode {
-    ExitCode::from(if show(&rt).is_some() { 0 } else { 1 })
+    ExitCode::from(if show(&rt, &rt).is_some() { 0 } else { 1 })
 }

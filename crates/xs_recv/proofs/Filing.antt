@@ -1,18 +1,16 @@
--- Offers that are filed one after the other.
-use Rattle.std.proofs.Common.{◌≡◌, ℕ, zero, suc, ◌+◌, ◌<◌, ◌≤◌, inl, inr, List, [], ◌∷◌, ◌++◌, length, Option, None, Some, refl, sym, ap, subst, ◌∙◌, arith, Contains, take, get_or, append-nil}
+-- How many bytes are held, and the offers of parts one after the other.
+use Rattle.std.proofs.Common.{◌≡◌, ℕ, zero, suc, ◌+◌, ◌<◌, ◌≤◌, inl, inr, List, [], ◌∷◌, ◌++◌, length, Option, None, Some, refl, sym, ap, subst, ◌∙◌, arith, take, get_or, append-nil}
 use mathlib.Core.Logic.{◌⊎◌}
-use Rattle.std.specs.Prelude.{IfSome, IsSome}
 use Rattle.std.specs.Option.{option_map_or, option_or}
 use Rattle.std.specs.List.{range_with_len, sum_by}
 use Rattle.std.proofs.lemmas.List.{take_more}
 use Rattle.std.proofs.lemmas.List.Concat.{flat_map-append}
 use Rattle.std.proofs.lemmas.Bool.{cases_eq}
-use Rattle.std.proofs.lemmas.List.Elements.{Contains-append_left, Contains-push, Contains-push_cases}
-use Rattle.std.proofs.lemmas.List.Sums.{sum_by-cons, sum_by_push}
+use Rattle.std.proofs.lemmas.List.Sums.{sum_by-cons}
 use Rattle.xs_capture.specs.Offer.{last_unit, Offer, unit_places}
 use Rattle.xs_capture.specs.Selection.{Held, bytes_at}
-use Rattle.xs_recv.specs.Filed.{AreFiled, IsFiled, held_size, unit_size}
-use Rattle.xs_recv.specs.Received.{offered_bytes, offers_of_parts}
+use Rattle.xs_recv.specs.Filed.{held_size, unit_size}
+use Rattle.xs_recv.specs.Received.{offers_of_parts}
 
 -- Sums of which one term grows
 
@@ -39,55 +37,16 @@ sum_grows f g more at first (suc n) others here = elim (cases_eq first at) [
 not_more : (a b : ℕ) → a ≡ b → a ≤ b
 not_more a b same = omega (arith, same)
 
-grown : (before now sum all more : ℕ) → before ≤ sum → now ≤ before + more → all ≡ sum + more → now ≤ all
-grown before now sum all more small less same = omega (arith, small, less, same)
-
--- One packet more
+-- One packet more is held
 
 -- a slot is that of the packet, or it is not
-same_slot : (p : Offer) (unit place : ℕ) → ((unit ≡ p.unit) × (place ≡ p.place)) ⊎ ((unit ≡ p.unit) × (place ≡ p.place) → ⊥)
+pub same_slot : (p : Offer) (unit place : ℕ) → ((unit ≡ p.unit) × (place ≡ p.place)) ⊎ ((unit ≡ p.unit) × (place ≡ p.place) → ⊥)
 same_slot p unit place = elim (cases_eq unit p.unit) [
   | inl one ↦ elim (cases_eq place p.place) [ inl two ↦ inl (one, two) | inr unlike ↦ inr (λ both. unlike both.1) ]
   | inr unlike ↦ inr (λ both. unlike both.0)
 ]
 
-module _ (offers : List Offer) (p : Offer) (before now : Held) (files : IsFiled p before now) where
-  at_slot : (o : Option Offer) → IfSome o (λ q. Contains offers q × (q.unit ≡ p.unit) × (q.place ≡ p.place)) → IfSome (option_or o (Some p)) (λ q. Contains (offers ++ p ∷ []) q × (q.unit ≡ p.unit) × (q.place ≡ p.place))
-  at_slot None was = (Contains-push offers p, refl, refl)
-  at_slot (Some q) was = (Contains-append_left offers (p ∷ []) q was.0, was.1, was.2)
-
-  elsewhere : (unit place : ℕ) (o : Option Offer) → IfSome o (λ q. Contains offers q × (q.unit ≡ unit) × (q.place ≡ place)) → IfSome o (λ q. Contains (offers ++ p ∷ []) q × (q.unit ≡ unit) × (q.place ≡ place))
-  elsewhere unit place None was = tt
-  elsewhere unit place (Some q) was = (Contains-append_left offers (p ∷ []) q was.0, was.1, was.2)
-
-  offered : ((unit place : ℕ) → IfSome (before unit place) (λ q. Contains offers q × (q.unit ≡ unit) × (q.place ≡ place))) → (unit place : ℕ)
-      → IfSome (now unit place) (λ q. Contains (offers ++ p ∷ []) q × (q.unit ≡ unit) × (q.place ≡ place))
-  offered was unit place = elim (same_slot p unit place) [
-    | inl same ↦
-        let here = subst (λ o. IfSome o (λ q. Contains (offers ++ p ∷ []) q × (q.unit ≡ p.unit) × (q.place ≡ p.place))) (sym files.here) (at_slot (before p.unit p.place) (was p.unit p.place)) in
-        subst (λ u. IfSome (now u place) (λ q. Contains (offers ++ p ∷ []) q × (q.unit ≡ u) × (q.place ≡ place))) (sym same.0)
-        (subst (λ m. IfSome (now p.unit m) (λ q. Contains (offers ++ p ∷ []) q × (q.unit ≡ p.unit) × (q.place ≡ m))) (sym same.1) here)
-    | inr unlike ↦ subst (λ o. IfSome o (λ q. Contains (offers ++ p ∷ []) q × (q.unit ≡ unit) × (q.place ≡ place))) (sym (files.others unit place unlike)) (elsewhere unit place (before unit place) (was unit place))
-  ]
-
-  some_or : (o : Option Offer) → IsSome (option_or o (Some p))
-  some_or None = refl
-  some_or (Some q) = refl
-
-  here_filled : IsSome (now p.unit p.place)
-  here_filled = subst IsSome (sym files.here) (some_or (before p.unit p.place))
-
-  filled : ((q : Offer) → Contains offers q → IsSome (before q.unit q.place)) → (q : Offer) → Contains (offers ++ p ∷ []) q → IsSome (now q.unit q.place)
-  filled was q has = elim (same_slot p q.unit q.place) [
-    | inl same ↦ subst (λ u. IsSome (now u q.place)) (sym same.0) (subst (λ m. IsSome (now p.unit m)) (sym same.1) here_filled)
-    | inr unlike ↦ elim (Contains-push_cases offers p q has) [
-      | inl early ↦ subst IsSome (sym (files.others q.unit q.place unlike)) (was q early)
-      | inr last ↦ absurd (unlike (ap (λ (x : Offer). x.unit) (sym last), ap (λ (x : Offer). x.place) (sym last)))
-    ]
-  ]
-
-  -- sizes
-
+module _ (p : Offer) (before now : Held) (here : now p.unit p.place ≡ option_or (before p.unit p.place) (Some p)) (others : (unit place : ℕ) → ((unit ≡ p.unit) × (place ≡ p.place) → ⊥) → now unit place ≡ before unit place) where
   abbrev size_of : Option Offer → ℕ
   size_of o = length (option_map_or (λ (q : Offer). q.bytes) o [])
 
@@ -96,10 +55,10 @@ module _ (offers : List Offer) (p : Offer) (before now : Held) (files : IsFiled 
   size_or (Some q) = omega arith
 
   place_grows : size_of (now p.unit p.place) ≤ size_of (before p.unit p.place) + length p.bytes
-  place_grows = subst (λ o. size_of o ≤ size_of (before p.unit p.place) + length p.bytes) (sym files.here) (size_or (before p.unit p.place))
+  place_grows = subst (λ o. size_of o ≤ size_of (before p.unit p.place) + length p.bytes) (sym here) (size_or (before p.unit p.place))
 
   place_kept : (unit place : ℕ) → ((unit ≡ p.unit) × (place ≡ p.place) → ⊥) → size_of (now unit place) ≤ size_of (before unit place)
-  place_kept unit place unlike = not_more (size_of (now unit place)) (size_of (before unit place)) (ap size_of (files.others unit place unlike))
+  place_kept unit place unlike = not_more (size_of (now unit place)) (size_of (before unit place)) (ap size_of (others unit place unlike))
 
   unit_grows : unit_size now p.unit ≤ unit_size before p.unit + length p.bytes
   unfolding unit_size
@@ -110,19 +69,9 @@ module _ (offers : List Offer) (p : Offer) (before now : Held) (files : IsFiled 
   unfolding unit_size
   unit_kept unit other = sum_late (λ place. size_of (before unit place)) (λ place. size_of (now unit place)) 0 unit_places (λ place from. place_kept unit place (λ both. other both.0))
 
-  all_grow : held_size now ≤ held_size before + length p.bytes
+  pub all_grow : held_size now ≤ held_size before + length p.bytes
   unfolding held_size
   all_grow = sum_grows (unit_size before) (unit_size now) (length p.bytes) p.unit 0 (last_unit + 1) unit_kept unit_grows
-
-  pub filed_more : AreFiled offers before → AreFiled (offers ++ p ∷ []) now
-  filed_more so = record {
-    selection = record { offered = offered so.selection.offered; filled = filled so.selection.filled };
-    bounded = λ unit at past. files.others unit at (λ both. no_place at both.1 past) ∙ so.bounded unit at past;
-    size = grown (held_size before) (held_size now) (offered_bytes offers) (offered_bytes (offers ++ p ∷ [])) (length p.bytes) so.size all_grow (sum_by_push (λ (q : Offer). length q.bytes) offers p);
-  }
-    where
-      no_place : (at : ℕ) → at ≡ p.place → unit_places ≤ at → ⊥
-      no_place at same past = let small = files.place in absurd (omega (arith, same, past, small))
 
 sum_zero : (f : ℕ → ℕ) (first n : ℕ) → ((k : ℕ) → f k ≡ 0) → sum_by f (range_with_len first n) ≡ 0
 sum_zero f first zero none = refl
@@ -132,20 +81,9 @@ none_of_unit : (held : Held) → ((unit place : ℕ) → held unit place ≡ Non
 unfolding unit_size
 none_of_unit held none unit = sum_zero (λ place. length (bytes_at held unit place)) 0 unit_places (λ place. ap (λ o. length (option_map_or (λ (q : Offer). q.bytes) o [])) (none unit place))
 
-none_of_all : (held : Held) → ((unit place : ℕ) → held unit place ≡ None) → held_size held ≡ 0
+pub none_of_all : (held : Held) → ((unit place : ℕ) → held unit place ≡ None) → held_size held ≡ 0
 unfolding held_size
 none_of_all held none = sum_zero (unit_size held) 0 (last_unit + 1) (none_of_unit held none)
-
--- nothing is filed
-pub none_filed : (held : Held) → ((unit place : ℕ) → held unit place ≡ None) → AreFiled [] held
-none_filed held none = record {
-  selection = record {
-    offered = λ unit place. subst (λ o. IfSome o (λ q. Contains [] q × (q.unit ≡ unit) × (q.place ≡ place))) (sym (none unit place)) tt;
-    filled = λ q has. absurd (omega (arith, has.1));
-  };
-  bounded = λ unit place past. none unit place;
-  size = not_more (held_size held) 0 (none_of_all held none);
-}
 
 -- the offers of one part more
 pub parts_more : (parts : List (List Offer)) (part : ℕ) → part < length parts → offers_of_parts (take (part + 1) parts) ≡ offers_of_parts (take part parts) ++ get_or parts part []

@@ -2,15 +2,24 @@
 //! missing, or what is damaged.
 #![tactic(auto)]
 
-mod filed;
-mod header;
+mod activity;
+mod answer;
+mod claim;
+mod feed;
+mod feeds;
+mod gather;
+mod head;
 mod laws;
 mod received;
 mod receiver;
+mod sweep;
+mod team;
+mod work;
+mod worker;
 
 pub use laws::{
     answer_exists, answer_of_set, offers_are_dealt, offers_are_in_capture, one_answer,
     sent_is_received,
 };
-pub use received::{Damage, Received};
+pub use received::{Damage, Received, Reception};
 pub use receiver::receive_picture;

@@ -1,4 +1,5 @@
 // What is received of a picture.
+use xs_board::ClosedBoard;
 use xs_faults::{HeadFault, SliceFault};
 use xs_io::{Memory, Numbers};
 use xs_params::Planes;
@@ -23,6 +24,13 @@ pub enum Received {
     Missing { header: bool, slices: Numbers },
     /// What is wrong.
     Damaged(Damage),
+}
+
+/// What is received of a picture, and the board on which its packets were filed.
+#[derive(Drop)]
+pub struct Reception {
+    pub received: Received,
+    pub board: ClosedBoard,
 }
 
 // Why no picture is given: what is received in its place, or want of memory.

@@ -1,150 +1,75 @@
 // A picture is received.
-ghost use Rattle.std.specs.Prelude.{◌≡◌, ◌+◌, ◌<◌, ◌≤◌, ◌^◌, ℕ, [], length, IfOk, MatchResult};
-ghost use Rattle.xs_params.specs.Accepted.{IsAccepted};
-ghost use Rattle.xs_params.specs.Geometry.{slice_count};
-ghost use Rattle.xs_capture.specs.Selection.{AreMissing, HasBytes, Held, IsBounded, IsSelection, IsWholeUnit};
-ghost use Rattle.xs_recv.specs.Filed.{IsReceivable, held_of};
-ghost use Rattle.xs_recv.specs.Received.{HasHeader, IsReceived, offered_bytes, offers_of_parts};
-ghost use Rattle.xs_recv.specs.Reading.{AreRead, IsSliceStop, IsStop};
-ghost use Rattle.xs_slice_read.specs.Unit.{IsUnitRead};
+ghost use Rattle.std.specs.Prelude.{◌<◌, ◌≤◌, ◌^◌, length, IfOk};
+ghost use Rattle.xs_lanes.specs.Settled.{IsDone};
+ghost use Rattle.xs_capture.specs.Selection.{IsSelection};
+ghost use Rattle.xs_stored.specs.Stored.{held_in, packets};
+ghost use Rattle.xs_recv.specs.Received.{IsReceived, offered_bytes, offers_of_parts};
+ghost use Rattle.xs_recv.specs.Sweeping.{GotWholes, IsKeptOf, IsSettled};
 
-use crate::filed::Filed;
-use crate::header::read_header_unit;
-use crate::received::{Damage, Received, Stop};
+use crate::activity::{Activity, Ended, Role, Team};
+use crate::answer::answer;
+use crate::feeds::feeds_of;
+use crate::received::{Received, Reception, Stop};
+use crate::team::run_all;
 use std::alloc::Global;
+use std::thread::Threads;
+use xs_board::Board;
 use xs_capture::Parts;
-use xs_faults::{HeadFault, SliceFault};
-use xs_geometry::{Geometry, SliceRows};
-use xs_io::{Gate, Memory, Numbers, Octets};
-use xs_params::{Header, Planes};
-use xs_picture::{StreamCoefs, decode_coefs};
-use xs_slice_read::read_unit;
+use xs_io::{Gate, Memory};
 
 /// Receives a picture of its packets, which come in any order, and each as often as one likes: 'RTP packets and captures'. All
-/// are of one timestamp. Where two differ at one unit and place, one of them is taken. One thread does all; neither the number
-/// of workers nor the gate has an effect.
-pub fn receive_picture<G: Gate>(
+/// are of one timestamp. Where two differ at one unit and place, one of them is taken. A thread for each part files its packets
+/// on a board, and so many workers claim the slices that are whole there, and read them; the caller does what they leave. Neither
+/// the number of threads nor the gate has an effect on the answer.
+pub fn receive_picture<T: Threads + Sync, G: Gate>(
+    threads: &T,
     alloc: Global,
     parts: Parts,
-    _workers: u32,
-    _gate: &G,
-) -> Result<Received, Memory>
+    workers: u32,
+    gate: &G,
+) -> Result<Reception, Memory>
     requires parts { length parts ≤ 8 }
     requires bytes { offered_bytes (offers_of_parts parts) < 2 ^ 32 }
-    ensures received { IfOk result (λ answer. (held : Held) × IsSelection (offers_of_parts parts) held × IsReceived held answer) }
+    ensures selection { IfOk result (λ r. IsSelection (offers_of_parts parts) (held_in r.board.actor.stored)) }
+    ensures received { IfOk result (λ r. IsReceived (held_in r.board.actor.stored) r.received) }
+    ensures done { IfOk result (λ r. IsDone packets r.board.actor) }
+    ensures got { IfOk result (λ r. GotWholes r.board.actor) }
 {
-    let filed = Filed::of(alloc, parts)?;
-    match receive(alloc, &filed) {
-        Ok(picture) => Ok(Received::Picture(picture)),
-        Err(Stop::Answer(answer)) => Ok(answer),
+    let Ended { board, kept } = collect(threads, alloc, parts, workers, gate)?;
+    match answer(alloc, &board, kept) {
+        Ok(picture) => Ok(Reception {
+            received: Received::Picture(picture),
+            board,
+        }),
+        Err(Stop::Answer(received)) => Ok(Reception { received, board }),
         Err(Stop::Memory) => Err(Memory),
     }
 }
 
-// The picture of the packets that are filed.
-fn receive(alloc: Global, filed: &Filed) -> Result<Planes, Stop>
-    requires { IsReceivable (held_of filed.now) }
-    ensures { MatchResult result (λ picture. IsReceived (held_of filed.now) (Received.Picture picture)) (IsStop (held_of filed.now)) }
-{
-    let (header, size) = find_header(alloc, filed)?;
-    check_slices(alloc, filed, &header, size)?;
-    let (coefs, length) = read_slices(alloc, filed, header, size)?;
-    let stated = coefs.header().lcod;
-    if stated != 0 && stated != length {
-        return Err(damaged(Damage::Lcod { stated, length }));
-    }
-    Ok(decode_coefs(alloc, &coefs)?)
-}
-
-// The answer that a picture is damaged.
-fn damaged(damage: Damage) -> Stop
-    ensures { result ≡ Stop.Answer (Received.Damaged damage) }
-{
-    Stop::Answer(Received::Damaged(damage))
-}
-
-// The header, and its length from SOC.
-fn find_header(alloc: Global, filed: &Filed) -> Result<(Header, u32), Stop>
-    requires { IsReceivable (held_of filed.now) }
-    ensures { MatchResult result (λ found. HasHeader (held_of filed.now) found.0 found.1) (IsStop (held_of filed.now)) }
-{
-    let Some(bytes) = filed.unit(alloc, 0)? else {
-        return Err(Stop::Answer(Received::Missing {
-            header: true,
-            slices: Numbers::new(alloc),
-        }));
-    };
-    match read_header_unit(alloc, bytes.as_slice()) {
-        Ok(read) => Ok(read),
-        Err(HeadFault::Memory) => Err(Stop::Memory),
-        Err(fault) => Err(damaged(Damage::Head(fault))),
-    }
-}
-
-// Whether the units of all slices are whole.
-fn check_slices(alloc: Global, filed: &Filed, header: &Header, size: u32) -> Result<(), Stop>
-    requires bounded { IsReceivable (held_of filed.now) }
-    requires headed { HasHeader (held_of filed.now) header.now size }
-    ensures { MatchResult result (λ _. AreMissing (held_of filed.now) (slice_count header.now) []) (IsStop (held_of filed.now)) }
-{
-    let missing = filed.missing(alloc, Geometry::of(header).slices())?;
-    if missing.len() == 0 {
-        return Ok(());
-    }
-    Err(Stop::Answer(Received::Missing {
-        header: false,
-        slices: missing,
-    }))
-}
-
-// The coefficients of all slices, and the length of the codestream.
-fn read_slices(
+// Files all packets, and claims all units that are whole.
+fn collect<T: Threads + Sync, G: Gate>(
+    threads: &T,
     alloc: Global,
-    filed: &Filed,
-    header: Header,
-    size: u32,
-) -> Result<(StreamCoefs, u32), Stop>
-    requires receivable { IsReceivable (held_of filed.now) }
-    requires headed { HasHeader (held_of filed.now) header size }
-    requires whole { AreMissing (held_of filed.now) (slice_count header) [] }
-    ensures header { IfOk result (λ read. read.0.header ≡ header) }
-    ensures read { MatchResult result (λ read. AreRead (held_of filed.now) header size (slice_count header) read.0.slices read.1) (IsStop (held_of filed.now)) }
+    parts: Parts,
+    workers: u32,
+    gate: &G,
+) -> Result<Ended, Memory>
+    requires parts { length parts ≤ 8 }
+    requires bytes { offered_bytes (offers_of_parts parts) < 2 ^ 32 }
+    ensures kept { IfOk result (λ e. IsKeptOf (held_in e.board.actor.stored) e.kept) }
+    ensures settled { IfOk result (λ e. IsSettled (offers_of_parts parts) e.board.actor) }
 {
-    let count = Geometry::of(&header).slices();
-    let mut coefs = StreamCoefs::new(alloc, header);
-    let mut length = size;
-    'slices: for slice in 0..count {
-        let bytes = slice_bytes(alloc, filed, slice)?;
-        let rows = read_rows(alloc, coefs.header(), slice, bytes.as_slice())?;
-        coefs.push(rows)?;
-        length += bytes.len() as u32;
+    let (feeds, units) = feeds_of(alloc, parts)?;
+    let (board, pass) = Board::new(alloc, units)?;
+    let mut team = Team::new(alloc, &board, pass);
+    team.fork(&board, feeds, workers)?;
+    let Team { pass, mut others } = team;
+    run_all(threads, &board, gate, others.as_mut_slice());
+    let mut caller = Activity::new(alloc, pass, Vec::new(alloc), Role::Feeder);
+    caller.gather(&board, others);
+    caller.sweep(&board);
+    if caller.is_starved() {
+        return Err(Memory);
     }
-    Ok((coefs, length))
-}
-
-// The bytes of a slice's unit, which is whole.
-fn slice_bytes(alloc: Global, filed: &Filed, slice: u32) -> Result<Octets, Memory>
-    requires few { slice < 2 ^ 31 }
-    requires bounded { IsBounded (held_of filed.now) }
-    requires whole { IsWholeUnit (held_of filed.now) (slice + 1) }
-    ensures { IfOk result (HasBytes (held_of filed.now) (slice + 1)) }
-{
-    match filed.unit(alloc, slice + 1)? {
-        Some(bytes) => Ok(bytes),
-        None => unreachable!(),
-    }
-}
-
-// The rows of a slice.
-fn read_rows(alloc: Global, header: &Header, slice: u32, bytes: &[u8]) -> Result<SliceRows, Stop>
-    requires few { length bytes.now < 2 ^ 32 }
-    requires accepted { IsAccepted header.now }
-    requires there { slice < slice_count header.now }
-    ensures { MatchResult result (λ rows. IsUnitRead header.now slice rows bytes.now) (IsSliceStop header.now slice bytes.now) }
-{
-    match read_unit(alloc, header, slice, bytes) {
-        Ok(rows) => Ok(rows),
-        Err(SliceFault::Memory) => Err(Stop::Memory),
-        Err(fault) => Err(damaged(Damage::Slice { slice, fault })),
-    }
+    Ok(caller.end(board))
 }

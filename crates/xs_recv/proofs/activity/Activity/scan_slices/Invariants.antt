@@ -1,0 +1,13 @@
+use Rattle.std.proofs.Common.{◌≡◌}
+use Rattle.xs_lanes.specs.Knowing.{SameShare}
+use Rattle.xs_board.specs.Passes.{IsBoardPass, actor, knows}
+use Rattle.xs_board.specs.Answers.{FilesNothing}
+use Rattle.xs_recv.proofs.activity.Activity.scan_slices.Given as goal
+
+abbrev pub invariant-scanning : goal.invariant-scanning
+invariant-scanning g l = record {
+  pass : IsBoardPass l.board l.self.pass;
+  share : SameShare (actor l.initial.self.pass) (actor l.self.pass);
+  files : FilesNothing (actor l.initial.self.pass) (actor l.self.pass);
+  knows : knows l.self.pass ≡ knows l.initial.self.pass;
+}

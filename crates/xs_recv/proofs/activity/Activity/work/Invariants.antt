@@ -1,0 +1,11 @@
+use Rattle.xs_lanes.specs.Knowing.{SameShare}
+use Rattle.xs_board.specs.Passes.{IsBoardPass, actor}
+use Rattle.xs_board.specs.Answers.{FilesNothing}
+use Rattle.xs_recv.proofs.activity.Activity.work.Given as goal
+
+abbrev pub invariant-working : goal.invariant-working
+invariant-working g l = record {
+  pass : IsBoardPass l.board l.self.pass;
+  share : SameShare (actor l.initial.self.pass) (actor l.self.pass);
+  files : FilesNothing (actor l.initial.self.pass) (actor l.self.pass);
+}

@@ -1,0 +1,2 @@
+mod Packable
+mod Small
