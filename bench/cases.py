@@ -1,6 +1,6 @@
 """Makes cases: words and an input, from a number generator. The codestreams with random modes and counts, raw packets, filler, and
 segments in any order are those that xsx reads and never writes."""
-from plain import coding, commands, network, runs
+from plain import coding, commands, network, pcap as files, runs
 from plain.header import CAP, CDT, COM, CRG, CTS, CWD, EOC, NLT, PIH, PIH_FIELDS, SLH, SOC, WGT, segment, segments_of, two
 from plain.layout import SAMPLING, Header, default_weights
 from plain.picture import encode
@@ -315,6 +315,40 @@ def rtp(random, number):
         yield decode, network.capture_of(packets)
 
 
+def record(random, captured):
+    """A record of captured bytes, now and then with a trailer, at any time."""
+    captured += random.choice((b"", b"", bytes(4)))
+    return random.randbytes(8) + len(captured).to_bytes(4, "little") + random.randbytes(4) + captured
+
+
+def captured_of(random, packet, port):
+    """A frame with a packet, now and then with tags, to another port, or no datagram."""
+    frame = files.wrapped(packet, 0, port)[files.RECORD :]
+    kind = random.randrange(12)
+    if kind < 3:
+        return frame[:12] + b"".join(b"\x81\0" + random.randbytes(2) for _ in range(kind + 1)) + frame[12:]
+    changed = bytearray(frame)
+    places = {3: 12, 4: 14, 5: 20, 6: 23, 7: 37}
+    if kind in places:
+        changed[places[kind]] ^= 1 << random.randrange(8)
+    return bytes(changed)
+
+
+def pcap(random, number):
+    """Files of packets: as they are written; with records lost, repeated, in any order, and stepped over; damaged."""
+    words, pictures, packets = capture(random)
+    port = random.choice((1, 5004, 65535))
+    words = [word if word != "rtp" else "pcap" for word in words] + ["--port", str(port)]
+    yield words, pictures
+    decode = ["decode", "--form", "pcap", "--port", str(random.choice((0, port, port, port ^ 256)))]
+    lost = random.choice((0, 0, 0.02, 0.3))
+    sent = [packet for packet in packets if random.random() >= lost for _ in range(random.choice((1, 1, 2)))]
+    if random.random() < 0.8:
+        random.shuffle(sent)
+    yield decode, files.file_header() + b"".join(record(random, captured_of(random, packet, port)) for packet in sent)
+    yield decode, damaged(random, files.file_of(packets, port))
+
+
 def words(random, number):
     """Words of a command, one or two of them spoilt; the input is empty."""
     values, _ = settings(random, random.choice(("xs", "rtp")))
@@ -341,4 +375,4 @@ def words(random, number):
     yield given, b""
 
 
-KINDS = {kind.__name__: kind for kind in (depths, modes, shares, damage, rtp, words)}
+KINDS = {kind.__name__: kind for kind in (depths, modes, shares, damage, rtp, pcap, words)}

@@ -1,6 +1,6 @@
 """Runs cases of a kind by a program and by the reference (bench/reference.py), and compares statuses, outputs and notes.
 
-    compare.py KIND SEED FIRST COUNT PROGRAM..     KIND is depths, modes, shares, damage, rtp or words
+    compare.py KIND SEED FIRST COUNT PROGRAM..     KIND is depths, modes, shares, damage, rtp, pcap or words
 
 Each case has a number and is made from it and the seed alone. At the first difference the input is kept and its command printed.
 """
@@ -24,7 +24,7 @@ MOST_CHOICES = 64
 
 def choices(words, data):
     """The inputs whose answers are right: of a capture one for each choice among offers that disagree, none where they are too many."""
-    if words[:1] != ["decode"] or "xs" in words:
+    if words[:1] != ["decode"] or "xs" in words or "pcap" in words:
         return [data]
     try:
         packets = network.frames_of(data)

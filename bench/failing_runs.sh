@@ -27,10 +27,14 @@ run $words <"$folder/short"
 ended 'a picture that is a byte short' 3 'input cut 127'
 run $words </dev/null
 ended 'no picture' 0 ''
-run decode --form pcap <"$folder/picture"
+run decode --form raw <"$folder/picture"
 ended 'words that are no command' 1 'words 2'
 run encode --width 31 --height 4 --share 400 <"$folder/picture"
 ended 'a setting out of range' 2 'setting width 31'
+run decode --form pcap --port 65536 <"$folder/picture"
+ended 'a port out of range' 2 'setting port 65536'
+run decode --form pcap <"$folder/picture"
+ended 'an input that is no pcap file' 3 'input magic 00000000'
 run decode --workers 17 <"$folder/picture"
 ended 'too many workers' 2 'setting workers 17'
 make_picture white 640 >"$folder/tall"

@@ -1,35 +1,32 @@
 #!/bin/sh
-# Shows a pcap file to tshark: a row of RTP packets with good IPv4 checksums; and files that editcap writes of it, with nanoseconds, and
-# that are in the other order of bytes, are unwrapped to the same capture. The packets are those of a small picture, encoded, wrapped and
-# unwrapped by the plain program that is written straight from docs/FORMAT.md. It needs python3, tshark and editcap.
+# Shows what `encode --form pcap` writes of a small picture to tshark: as many RTP packets with good IPv4 checksums as there are records.
+# The file has the bytes that the reference makes of the same words. Then files that editcap writes of it, with nanoseconds, and files in
+# the other order of bytes are decoded to the same samples. It uses the built program (crates/xsx/out/xsx, after `rt run` there or a
+# whole `rt ci`), and needs python3, tshark and editcap.
 #
-#   sh bench/pcap.sh [FILE]    FILE is another pcap file to be shown, of packets to port 5004
+#   sh bench/pcap.sh
 . "$(dirname "$0")/common.sh"
+
+program=$(built xsx 'rt run')
 for tool in python3 tshark editcap; do
     command -v $tool >/dev/null || { echo "no $tool: skipped" >&2; exit 0; }
 done
-python="python3 $top/bench"
+words='encode --form pcap --width 32 --height 17 --format mono --nlx 2 --share 274 --chunk 64'
 
 head -c 544 /dev/zero | tr '\0' '\200' >"$folder/raw"
-$python/reference.py encode --form rtp --width 32 --height 17 --format mono --nlx 2 --share 274 --chunk 64 <"$folder/raw" >"$folder/capture"
-$python/pcap_files.py wrap 5004 <"$folder/capture" >"$folder/made.pcap"
-[ "$(wc -c <"$folder/made.pcap")" -eq 907 ]
-cp "${1:-$folder/made.pcap}" "$folder/shown.pcap"
+"$program" $words <"$folder/raw" >"$folder/sent.pcap"
+[ "$(wc -c <"$folder/sent.pcap")" -eq 907 ]
+python3 "$top/bench/reference.py" $words <"$folder/raw" | cmp - "$folder/sent.pcap"
 
-shown() {
-    tshark -r "$1" -o ip.check_checksum:TRUE -d udp.port==5004,rtp -T fields -e rtp.seq -e rtp.timestamp -e ip.checksum.status -e frame.time_epoch -e frame.len 2>/dev/null
-}
-shown "$folder/shown.pcap"
-tshark -r "$folder/shown.pcap" -o ip.check_checksum:TRUE -d udp.port==5004,rtp -Y 'rtp && ip.checksum.status == "Good"' 2>/dev/null | wc -l >"$folder/good"
-tshark -r "$folder/shown.pcap" 2>/dev/null | wc -l >"$folder/all"
-cmp "$folder/good" "$folder/all"
+tshark -r "$folder/sent.pcap" 2>/dev/null | wc -l >"$folder/all"
+tshark -r "$folder/sent.pcap" -o ip.check_checksum:TRUE -d udp.port==5004,rtp -Y 'rtp && ip.checksum.status == "Good"' 2>/dev/null |
+    wc -l | cmp - "$folder/all"
 echo "all $(cat "$folder/all") records are RTP packets with good checksums"
 
-$python/pcap_files.py unwrap 5004 <"$folder/shown.pcap" >"$folder/first"
-editcap -F nsecpcap "$folder/shown.pcap" "$folder/nanoseconds.pcap"
-$python/pcap_files.py big <"$folder/shown.pcap" >"$folder/big.pcap"
+editcap -F nsecpcap "$folder/sent.pcap" "$folder/nanoseconds.pcap"
+python3 "$top/bench/pcap_files.py" big <"$folder/sent.pcap" >"$folder/big.pcap"
 tshark -r "$folder/big.pcap" 2>/dev/null | wc -l | cmp - "$folder/all"
-for other in nanoseconds big; do
-    $python/pcap_files.py unwrap 0 <"$folder/$other.pcap" | cmp - "$folder/first"
+for file in sent nanoseconds big; do
+    "$program" decode --form pcap <"$folder/$file.pcap" | cmp - "$folder/raw"
 done
-echo "files with nanoseconds and in the other order of bytes have the same capture"
+echo "files with nanoseconds and in the other order of bytes are decoded to the same samples"

@@ -8,9 +8,10 @@ ENCODE = {
     "width": (NUMBER, None), "height": (NUMBER, None), "share": (NUMBER, None), "format": (("mono", "422", "444"), "422"),
     "depth": (NUMBER, 8), "bits": (NUMBER, 20), "nlx": (NUMBER, 5), "nly": (NUMBER, 2), "slice": (NUMBER, 4), "colour": (("0", "1"), "0"),
     "quant": (("deadzone", "uniform"), "uniform"), "signs": (("in", "apart"), "in"), "fill": (("0", "1"), "0"), "chunk": (NUMBER, 1400),
-    "pt": (NUMBER, 96), "ssrc": (NUMBER, 1), "time": (NUMBER, 0), "step": (NUMBER, 1500), "form": (("rtp", "xs"), "rtp"), "workers": (NUMBER, 4),
+    "pt": (NUMBER, 96), "ssrc": (NUMBER, 1), "time": (NUMBER, 0), "step": (NUMBER, 1500), "form": (("rtp", "xs", "pcap"), "rtp"),
+    "workers": (NUMBER, 4), "port": (NUMBER, 5004),
 }
-DECODE = {"form": (("rtp", "xs"), "rtp"), "workers": (NUMBER, 4), "feeders": (NUMBER, 2)}
+DECODE = {"form": (("rtp", "xs", "pcap"), "rtp"), "workers": (NUMBER, 4), "feeders": (NUMBER, 2), "port": (NUMBER, 0)}
 TRIAL = {
     "seed": (NUMBER, 1), "width": (NUMBER, 256), "height": (NUMBER, 128), "share": (NUMBER, 4000), "workers": (NUMBER, 4), "feeders": (NUMBER, 2),
 }
@@ -68,7 +69,7 @@ def settings_of(command, values):
 
 def check(command, s):
     """The first setting that is out of range is refused."""
-    for name, value, accepted in (picture_rules(s) if command != "decode" else []) + thread_rules(s):
+    for name, value, accepted in (picture_rules(s) if command != "decode" else []) + thread_rules(s) + [port_rule(command, s)]:
         if not accepted():
             raise BadSetting(name, value)
 
@@ -95,6 +96,10 @@ def picture_rules(s):
 
 def thread_rules(s):
     return [("workers", s.workers, lambda: 1 <= s.workers <= 16), ("feeders", s.feeders, lambda: 1 <= s.feeders <= 8)]
+
+
+def port_rule(command, s):
+    return ("port", s.port, lambda: (1 if command == "encode" else 0) <= s.port <= 65535)
 
 
 def header_of(s):

@@ -1,5 +1,5 @@
 """'Runs' and 'Notes': what a run of given words on given bytes ends with, writes and says."""
-from . import commands, network, trial
+from . import commands, network, pcap, trial
 from .faults import Fault
 from .picture import decoded, encode, read_codestream
 from .rate import Budget
@@ -20,7 +20,7 @@ def run(words, data):
         elif command == "trial":
             status = try_seed(settings, out, notes)
         else:
-            status = (decode_codestreams if settings.form == "xs" else decode_capture)(data, out, notes)
+            status = (decode_codestreams if settings.form == "xs" else decode_packets)(settings, data, out, notes)
     except commands.BadWord as bad:
         status = told(notes, 1, f"words {bad.place}")
     except commands.BadSetting as bad:
@@ -36,6 +36,8 @@ def told(notes, status, note):
 def encode_pictures(settings, data, out, notes):
     h = commands.header_of(settings)
     size, p, sequence = raw_size(h), 0, 0
+    if settings.form == "pcap":
+        out.append(pcap.file_header())
     for n in range(MOST_PICTURES + 1):
         if p == len(data):
             return 0
@@ -54,7 +56,10 @@ def encode_pictures(settings, data, out, notes):
             out.append(header + b"".join(slices) + network.two(network.EOC))
         else:
             packets = network.packets_of(settings.boxes + header, slices, settings, n, sequence)
-            out.append(network.capture_of(packets))
+            if settings.form == "pcap":
+                out += [pcap.wrapped(packet, pcap.big(packet, 4, 4), settings.port) for packet in packets]
+            else:
+                out.append(network.capture_of(packets))
             sequence += len(packets)
         p += size
 
@@ -68,7 +73,7 @@ def try_seed(settings, out, notes):
     return 0
 
 
-def decode_codestreams(data, out, notes):
+def decode_codestreams(settings, data, out, notes):
     if len(data) > MOST_BYTES:
         return told(notes, 3, f"input limit {MOST_BYTES}")
     p = 0
@@ -87,17 +92,18 @@ def decode_codestreams(data, out, notes):
         p += length
 
 
-def decode_capture(data, out, notes):
+def decode_packets(settings, data, out, notes):
     if len(data) > MOST_BYTES:
         return told(notes, 3, f"input limit {MOST_BYTES}")
     try:
-        pictures, stepped = network.pictures_of(network.frames_of(data))
+        packets, records = pcap.unwrapped(data, settings.port) if settings.form == "pcap" else (network.frames_of(data), 0)
+        pictures, stepped = network.pictures_of(packets)
     except Fault as fault:
         return told(notes, 3, f"input {fault.text}")
     if len(pictures) > MOST_PICTURES:
         return told(notes, 3, f"input pictures {len(pictures)}")
-    if stepped:
-        notes.append(f"stepped {stepped}")
+    if records + stepped:
+        notes.append(f"stepped {records + stepped}")
     status = 0
     for timestamp in sorted(pictures):
         try:

@@ -1,5 +1,5 @@
 -- Where offers agree, one thing is said of a capture.
-use Rattle.std.proofs.Common.{◌≡◌, ℕ, ◌<◌, ◌≤◌, List, [], ◌∷◌, length, map, Bool, true, false, cond, Result, Ok, Err, refl, sym, ap, subst, ◌∙◌, arith, inl, inr, ◌⊎◌, Contains}
+use Rattle.std.proofs.Common.{◌≡◌, ℕ, ◌+◌, ◌<◌, ◌≤◌, List, [], ◌∷◌, length, map, Bool, true, false, cond, Result, Ok, Err, refl, sym, ap, subst, ◌∙◌, arith, inl, inr, ◌⊎◌, Contains}
 use Rattle.std.specs.Prelude.{nat_eq, filter, ◌↔◌}
 use Rattle.std.specs.List.{AllByRecursion}
 use Rattle.std.proofs.lemmas.Bool.{eqb-true}
@@ -20,8 +20,9 @@ use Rattle.xs_endings.specs.Said.{Said, only_note}
 use Rattle.xs_recv.proofs.Ascending.{one_ascending}
 use Rattle.xs_recv.proofs.Dealt.{offers_are_in_capture}
 use Rattle.xs_recv.proofs.OneAnswer.{answer_of_set}
-use Rattle.xs_cli.specs.Captured.{AreSaidOf, IsCaptured, IsSaidOf, IsSaidOfSorted, said_of, said_then, stepped_said}
+use Rattle.xs_cli.specs.Captured.{AreSaidOf, IsCaptured, IsCapturedAfter, IsSaidOf, IsSaidOfSorted, also_stepped, said_of, said_then, stepped_said}
 use Rattle.xs_cli.specs.CapturedLaws.{OneCaptured}
+use Rattle.xs_cli.proofs.CapturedHalts.{as_after}
 
 -- The offers of a picture
 
@@ -74,7 +75,7 @@ same_times offers others timestamps same times = record {
         let p = of_map (λ (q : Offer). q.timestamp) others n has in
         subst (Contains (map (λ (q : Offer). q.timestamp) offers)) p.2 (in_map (λ (q : Offer). q.timestamp) offers p.0 ((same p.0).1 p.1))
 
-module _ (packets : List (List ℕ)) (bytes : List ℕ) (whole : IsCapture packets bytes) where
+module _ (records : ℕ) (packets : List (List ℕ)) (bytes : List ℕ) (whole : IsCapture packets bytes) where
   abbrev offers_of_picture : ℕ → List Offer
   offers_of_picture timestamp = offers_at timestamp (offers_of packets)
 
@@ -82,9 +83,10 @@ module _ (packets : List (List ℕ)) (bytes : List ℕ) (whole : IsCapture packe
   abbrev IsSaidBy : List ℕ → Said → Type 0
   IsSaidBy timestamps said =
       ((most_pictures < length timestamps) × (said ≡ only_note (note.InputPictures (length timestamps))))
-      ⊎ ((length timestamps ≤ most_pictures) × (pictures : Said) × AreSaidOf timestamps (map offers_of_picture timestamps) pictures × (said ≡ said_then (stepped_said (stepped_of packets)) pictures))
+      ⊎ ((length timestamps ≤ most_pictures) × (pictures : Said) × AreSaidOf timestamps (map offers_of_picture timestamps) pictures × (said ≡ said_then (stepped_said (stepped_of packets + records)) pictures))
 
-  said_by : (timestamps : List ℕ) → AreTimestamps (offers_of packets) timestamps → (said : Said) (sorted : Result Sorting SortFault) → IsSorted bytes sorted → IsSaidOfSorted sorted said → IsSaidBy timestamps said
+  said_by : (timestamps : List ℕ) → AreTimestamps (offers_of packets) timestamps → (said : Said) (sorted : Result Sorting SortFault) → IsSorted bytes sorted
+      → IsSaidOfSorted (also_stepped records sorted) said → IsSaidBy timestamps said
   said_by timestamps times said (Ok sorting) sorts is =
       let same = frames_are_one.whole bytes sorts.packets packets sorts.whole whole in
       let own = subst (λ ps. AreTimestamps (offers_of ps) sorting.timestamps) same sorts.timestamps in
@@ -96,7 +98,7 @@ module _ (packets : List (List ℕ)) (bytes : List ℕ) (whole : IsCapture packe
         subst (λ l. length l ≤ most_pictures) names sorts.most,
         is.0,
         subst (λ os. AreSaidOf timestamps os is.0) offers (subst (λ ts. AreSaidOf ts sorting.offers is.0) names is.1),
-        is.2 ∙ ap (λ n. said_then (stepped_said n) is.0) stepped,
+        is.2 ∙ ap (λ n. said_then (stepped_said (n + records)) is.0) stepped,
       )
   said_by timestamps times said (Err (sort.Pictures count)) sorts is =
       let same = frames_are_one.whole bytes sorts.packets packets sorts.whole whole in
@@ -108,7 +110,7 @@ module _ (packets : List (List ℕ)) (bytes : List ℕ) (whole : IsCapture packe
   said_by timestamps times said (Err (sort.Cut place)) sorts is = absurd (frames_are_one.either bytes packets place whole sorts)
   said_by timestamps times said (Err sort.Memory) sorts is = absurd is
 
-module _ (packets others : List (List ℕ)) (bytes more : List ℕ) (whole : IsCapture packets bytes) (whole' : IsCapture others more) (are : AreBytes bytes)
+module _ (records besides : ℕ) (packets others : List (List ℕ)) (bytes more : List ℕ) (whole : IsCapture packets bytes) (whole' : IsCapture others more) (are : AreBytes bytes)
     (same : (p : Offer) → Contains (offers_of packets) p ↔ Contains (offers_of others) p) (agree : AllAgree (offers_of packets)) where
   one_picture : (timestamp : ℕ) (said other : Said) → IsSaidOf timestamp (offers_at timestamp (offers_of packets)) said → IsSaidOf timestamp (offers_at timestamp (offers_of others)) other → said ≡ other
   one_picture timestamp said other x y =
@@ -131,19 +133,27 @@ module _ (packets others : List (List ℕ)) (bytes more : List ℕ) (whole : IsC
       let rest = one_of_all timestamps x.2 y.2 x.3 y.3 in
       x.4 ∙ ap (λ s. said_then s x.2) first ∙ ap (said_then y.0) rest ∙ sym y.4
 
-  one_by : (timestamps : List ℕ) (said other : Said) → stepped_of packets ≡ stepped_of others → IsSaidBy packets bytes whole timestamps said → IsSaidBy others more whole' timestamps other → said ≡ other
+  one_by : (timestamps : List ℕ) (said other : Said) → stepped_of packets + records ≡ stepped_of others + besides
+      → IsSaidBy records packets bytes whole timestamps said → IsSaidBy besides others more whole' timestamps other → said ≡ other
   one_by timestamps said other stepped (inl x) (inl y) = x.1 ∙ sym y.1
   one_by timestamps said other stepped (inl x) (inr y) = absurd (omega (arith, x.0, y.0))
   one_by timestamps said other stepped (inr x) (inl y) = absurd (omega (arith, x.0, y.0))
   one_by timestamps said other stepped (inr x) (inr y) =
-      x.3 ∙ ap (λ n. said_then (stepped_said n) x.1) stepped ∙ ap (said_then (stepped_said (stepped_of others))) (one_of_all timestamps x.1 y.1 x.2 y.2) ∙ sym y.3
+      x.3 ∙ ap (λ n. said_then (stepped_said n) x.1) stepped ∙ ap (said_then (stepped_said (stepped_of others + besides))) (one_of_all timestamps x.1 y.1 x.2 y.2) ∙ sym y.3
+
+-- also where records were stepped over before
+pub one_after : (records besides : ℕ) (packets others : List (List ℕ)) (bytes more : List ℕ) (said other : Said) → IsCapture packets bytes → IsCapture others more → AreBytes bytes
+    → ((p : Offer) → Contains (offers_of packets) p ↔ Contains (offers_of others) p) → stepped_of packets + records ≡ stepped_of others + besides → AllAgree (offers_of packets)
+    → IsCapturedAfter records bytes said → IsCapturedAfter besides more other → said ≡ other
+one_after records besides packets others bytes more said other whole whole' are same stepped agree x y =
+    let times = timestamps_exist packets in
+    one_by records besides packets others bytes more whole whole' are same agree times.0 said other stepped
+    (said_by records packets bytes whole times.0 times.1 said x.sorted x.sorts x.answer)
+    (said_by besides others more whole' times.0 (same_times (offers_of packets) (offers_of others) times.0 same times.1) other y.sorted y.sorts y.answer)
 
 pub one_captured : OneCaptured
 one_captured packets others bytes more said other whole whole' are same stepped agree x y =
-    let times = timestamps_exist packets in
-    one_by packets others bytes more whole whole' are same agree times.0 said other stepped
-    (said_by packets bytes whole times.0 times.1 said x.sorted x.sorts x.answer)
-    (said_by others more whole' times.0 (same_times (offers_of packets) (offers_of others) times.0 same times.1) other y.sorted y.sorts y.answer)
+    one_after 0 0 packets others bytes more said other whole whole' are same (ap (λ n. n + 0) stepped) agree (as_after bytes said x) (as_after more other y)
 
 -- one capture has one answer
 pub one_said : (packets : List (List ℕ)) (bytes : List ℕ) (said other : Said) → IsCapture packets bytes → AreBytes bytes → AllAgree (offers_of packets) → IsCaptured bytes said → IsCaptured bytes other → said ≡ other

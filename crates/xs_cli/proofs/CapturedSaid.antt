@@ -263,8 +263,9 @@ IsSaidAll sorting = HasSaid (IsSaidOfSorted (Ok sorting))
 
 module _ (sorting : Sorting) (all : AllByRecursion HasAnswer sorting.offers) (as_many : length sorting.offers ≡ length sorting.timestamps) where
   -- the note on what was stepped over
-  pub stepped_given : (a p r : Option (List ℕ)) (f u w : ℕ) {T : Type 0} (done : T) → IsGiven (change_of p r u w) (note_lines (stepped_said sorting.stepped).notes) (Ok done) → HasSaidTo sorting sorting 0 0 (untouched a f) (change_of p r u w)
-  stepped_given a p r f u w done given = record {
+  pub stepped_given : (sorted : Sorting) → sorted.timestamps ≡ sorting.timestamps → sorted.offers ≡ sorting.offers → (a p r : Option (List ℕ)) (f u w : ℕ) {T : Type 0} (done : T)
+      → IsGiven (change_of p r u w) (note_lines (stepped_said sorting.stepped).notes) (Ok done) → HasSaidTo sorting sorted 0 0 (untouched a f) (change_of p r u w)
+  stepped_given sorted names offers a p r f u w done given = record {
     said = stepped_said sorting.stepped;
     on = λ more left. (more, left, refl);
     out = Appends-nil a;
@@ -272,9 +273,9 @@ module _ (sorting : Sorting) (all : AllByRecursion HasAnswer sorting.offers) (as
     is = sym (stepped_status sorting.stepped);
     out_later = omega arith;
     lines_later = given.later;
-    names = refl;
-    count = as_many;
-    left = refl;
+    names = names;
+    count = ap length offers ∙ as_many;
+    left = ap (drop 0) offers;
   }
 
   pub stepped_cut : (a p r : Option (List ℕ)) (f u w : ℕ) {T : Type 0} (why : Stop) → IsGiven {T = T} (change_of p r u w) (note_lines (stepped_said sorting.stepped).notes) (Err why)

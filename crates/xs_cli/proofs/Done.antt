@@ -23,8 +23,9 @@ use Rattle.xs_endings.specs.Turns.{HasSaidAll, nothing}
 use Rattle.xs_endings.proofs.Changes.{front_of_none}
 use Rattle.xs_endings.proofs.Pictures.{rest_from}
 use Rattle.xs_endings.proofs.Turns.{said_on}
+use Rattle.xs_params.specs.declared.settings.Settings.{Settings}
 use Rattle.xs_words.specs.declared.command.Form.{Form}
-use Rattle.xs_words.specs.declared.command.Form.TheVariants.{Rtp, Xs}
+use Rattle.xs_words.specs.declared.command.Form.TheVariants.{Rtp, Xs, Pcap}
 use Rattle.xs_params.specs.declared.settings.Setting.{Setting}
 use Rattle.xs_params.proofs.InRange.{in_range}
 use Rattle.xs_words.specs.declared.command.Refusal.{Refusal}
@@ -38,12 +39,14 @@ use Rattle.xs_cli.specs.Answer.{IsAnswer, IsAnswerUnless, IsCommandAnswer, IsCom
 use Rattle.xs_cli.specs.Decoded.{IsDecodeTurn, IsDecoded, IsFormAnswer, input_limit}
 use Rattle.xs_cli.specs.Steps.{AreStreamsDecoded, IsCommandStop, IsDone, IsExecuted, IsOwnStop}
 use Rattle.xs_cli.proofs.Inputs.{front_of, no_bytes, over, used_up, was_some, was_whole}
-use Rattle.xs_cli.specs.Encoded.{IsEncodeTurn, encode_turn}
+use Rattle.xs_cli.specs.Encoded.{IsEncodeTurn, encode_turn, file_front, with_front}
 use Rattle.xs_cli.specs.Laws.{AnswersExist}
 use Rattle.xs_cli.proofs.Turns.{encode_goes}
-use Rattle.xs_cli.specs.Receiving.{AreReceived, NeverStands}
+use Rattle.xs_cli.specs.Receiving.{AreReceived, AreUnwrapped, NeverStands}
+use Rattle.xs_cli.specs.Captured.{IsCaptured, IsCapturedAfter}
 use Rattle.xs_cli.proofs.Streams.{decode_goes}
-use Rattle.xs_cli.proofs.CapturedHalts.{captured_exists}
+use Rattle.xs_cli.proofs.CapturedHalts.{after_none, capture_answered}
+use Rattle.xs_cli.proofs.Unwrapping.{file_exists}
 use Rattle.xs_cli.proofs.TrialAnswers.{trials_answered}
 
 -- The same halt by other words for its answers
@@ -73,7 +76,7 @@ module _ (Answer Other : Said → Type 0) (Stands Others : List ℕ → List ℕ
 
 -- Decoding
 
-within_limit : (form : Form) (input : List ℕ) (said : Said) → length input ≤ input_limit → IsFormAnswer form input said → IsDecoded form input said
+pub within_limit : (form : Form) (input : List ℕ) (said : Said) → length input ≤ input_limit → IsFormAnswer form input said → IsDecoded form input said
 within_limit form input said within answer =
     let test : nat_lt input_limit (length input) ≡ false = grind (arith, nat_tests) in
     subst (λ (b : Bool). MatchBool b (said ≡ only_note (note.InputLimit input_limit)) (IsFormAnswer form input said)) (sym test) answer
@@ -95,7 +98,8 @@ all_said input are =
 
 form_answer : (form : Form) (input : List ℕ) → AreBytes input → (said : Said) × IsFormAnswer form input said
 form_answer Xs input are = all_said input are
-form_answer Rtp input are = captured_exists input are
+form_answer Rtp input are = capture_answered input are
+form_answer (Pcap port) input are = file_exists port input are
 
 -- each input of bytes has an answer
 pub decode_answer : (form : Form) (input : List ℕ) → AreByteItems input → (said : Said) × IsDecoded form input said
@@ -154,10 +158,18 @@ streams_done workers feeders a c f h held faults bytes output result within are 
 
 -- the whole input was read, and was received as a capture
 pub capture_done : (workers feeders : ℕ) (a c : Option (List ℕ)) (f h : ℕ) (bytes : List ℕ) (output notes : Change) (result : Result ℕ Stop) → length bytes ≤ input_limit → AreByteItems bytes
-    → Consumes a c bytes → IsAtEnd c → IsCommandStop result → IsLater notes → AreReceived bytes output notes result
+    → Consumes a c bytes → IsAtEnd c → IsCommandStop result → IsLater notes → AreReceived 0 bytes output notes result
     → IsDone (Decode Rtp workers feeders) (ends_of (change_of a c f h) output notes) result
 capture_done workers feeders a c f h bytes output notes result within are consumed end stops later received =
-    read_whole Rtp workers feeders a c f h bytes output notes result NeverStands (λ taken out never. absurd never) within are consumed end stops later (received (change_of a c f h))
+    read_whole Rtp workers feeders a c f h bytes output notes result NeverStands (λ taken out never. absurd never) within are consumed end stops later
+    (halt_as (IsCapturedAfter 0 bytes) (IsCaptured bytes) NeverStands NeverStands bytes (ends_of (change_of a c f h) output notes) (after_none bytes) (λ taken out never. never) result (received (change_of a c f h) bytes))
+
+-- or as a pcap file
+pub file_done : (port workers feeders : ℕ) (a c : Option (List ℕ)) (f h : ℕ) (bytes : List ℕ) (output notes : Change) (result : Result ℕ Stop) → length bytes ≤ input_limit → AreByteItems bytes
+    → Consumes a c bytes → IsAtEnd c → IsCommandStop result → IsLater notes → AreUnwrapped port bytes output notes result
+    → IsDone (Decode (Pcap port) workers feeders) (ends_of (change_of a c f h) output notes) result
+file_done port workers feeders a c f h bytes output notes result within are consumed end stops later received =
+    read_whole (Pcap port) workers feeders a c f h bytes output notes result NeverStands (λ taken out never. absurd never) within are consumed end stops later (received (change_of a c f h))
 
 module _ (form : Form) (workers feeders : ℕ) (a c p : Option (List ℕ)) (f h u : ℕ) (held : Option (List ℕ)) (faults : ℕ) where
   pub over_limit : (front : List ℕ) → length front ≡ input_limit + 1 → Consumes a c front
@@ -260,6 +272,13 @@ refused_words words why a p f u held faults e = record {
   later = omega arith;
 }
 
+-- each input has pictures that are written, or why not
+pub encode_pictures : (settings : Settings) (form : Form) (input : List ℕ) → (said : Said) × HasSaidAll (IsEncodeTurn settings form) input said
+encode_pictures settings form input =
+    let enough : most_pictures ≤ nothing.pictures + most_pictures = omega arith in
+    let rest = rest_from (IsEncodeTurn settings form) (λ _. Unit {0}) most_pictures (encode_goes settings form) most_pictures nothing input tt enough (encode_turn settings form nothing input) refl in
+    (_, said_on (IsEncodeTurn settings form) nothing rest.end input input rest.last [] rest.more rest.notes (refl, refl) rest.written rest.ended)
+
 -- each input of bytes has an answer
 
 -- settings that no words refuse are in range, but for what boxes are; those of a trial have none
@@ -288,18 +307,17 @@ unrefused None (Some setting) e = absurd (cc)
 unrefused (Some place) None e = absurd (cc)
 unrefused (Some place) (Some setting) e = absurd (cc)
 
-command_answer : (command : Command) (input : List ℕ) → AreByteItems input → AreSound command → first_of (refused_settings command) ≡ None → (said : Said) × IsCommandAnswer command input said
-command_answer (Decode form workers feeders) input are known none = decode_answer form input are
-command_answer (Encode settings form) input are known none =
-    let enough : most_pictures ≤ nothing.pictures + most_pictures = omega arith in
-    let rest = rest_from (IsEncodeTurn settings form) (λ _. Unit {0}) most_pictures (encode_goes settings form) most_pictures nothing input tt enough (encode_turn settings form nothing input) refl in
-    (_, said_on (IsEncodeTurn settings form) nothing rest.end input input rest.last [] rest.more rest.notes (refl, refl) rest.written rest.ended)
-command_answer (Trial settings seed) input are known none =
+command_answer : (words : List (List ℕ)) (command : Command) (input : List ℕ) → AreByteItems input → AreSound command → first_of (refused_settings words command) ≡ None → (said : Said) × IsCommandAnswer command input said
+command_answer words (Decode form workers feeders) input are known none = decode_answer form input are
+command_answer words (Encode settings form) input are known none =
+    let found = encode_pictures settings form input in
+    (with_front (file_front form) found.0, record { pictures = found.0; turns = found.1; whole = refl })
+command_answer words (Trial settings seed) input are known none =
     trials_answered settings seed (in_range settings (subst AreBytes (sym known) tt) (record { none = none }))
 
 pub has_answer : AnswersExist
 has_answer words input are = go (refusal_of words) refl
   where
     go : (o : Option Refusal) → refusal_of words ≡ o → (said : Said) × IsAnswerUnless o (command_of words) input said
-    go None e = command_answer (command_of words) input are (sound words) (unrefused (bad_place words) (first_of (refused_settings (command_of words))) e)
+    go None e = command_answer words (command_of words) input are (sound words) (unrefused (bad_place words) (first_of (refused_settings words (command_of words))) e)
     go (Some why) e = (only_note (refusal_note why), refl)

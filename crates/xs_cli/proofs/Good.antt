@@ -19,7 +19,7 @@ use Rattle.xs_notes.specs.declared.note.Note.TheVariants as note
 use Rattle.xs_endings.specs.Said.{Said, only_note, status_of, status_of_notes}
 use Rattle.xs_endings.specs.Turns.{AreWritten, Before, Ends, HasSaidAll, Turn, Writes, after, nothing}
 use Rattle.xs_words.specs.declared.command.Form.{Form}
-use Rattle.xs_words.specs.declared.command.Form.TheVariants.{Rtp, Xs}
+use Rattle.xs_words.specs.declared.command.Form.TheVariants.{Rtp, Xs, Pcap}
 use Rattle.xs_lists.specs.First.{first_some}
 use Rattle.xs_params.specs.Picture.{raw_bytes}
 use Rattle.xs_picture.proofs.Known.{streams_known}
@@ -31,7 +31,7 @@ use Rattle.xs_cli.specs.Answer.{IsCommandAnswer}
 use Rattle.xs_cli.specs.Decoded.{IsDecodeTurn, IsDecoded, IsDecodedTurn, IsTurnUnless, decode_ends, fault_notes, input_limit}
 use Rattle.xs_cli.specs.Encoded.{IsEncodeTurn, encoded_as, first_picture, turn_unless}
 use Rattle.xs_cli.specs.Good.{AreGoodPictures, AreGoodStreams, AreStreams, IsGood, picture_at}
-use Rattle.xs_cli.proofs.CapturedWhole.{captured_good}
+use Rattle.xs_cli.proofs.CapturedWhole.{captured_good, file_good}
 use Rattle.xs_cli.proofs.Streams.{drop_bytes, end_ends, in_order}
 use Rattle.xs_cli.proofs.Turns.{end_turn, whole_turn, writes_whole}
 
@@ -46,6 +46,7 @@ written_good : (s : Settings) (form : Form) (at : Before) (picture : Picture) (s
     → Ends notes ≡ turn_unless (option_map (λ place. note.InputSample (at.bytes + place) ∷ []) o) (encoded_as s form at r) → ⊥
 written_good s Xs at picture stream None (Ok other) notes none ok e = absurd (cc)
 written_good s Rtp at picture stream None (Ok other) notes none ok e = absurd (cc)
+written_good s (Pcap port) at picture stream None (Ok other) notes none ok e = absurd (cc)
 written_good s form at picture stream None (Err budget) notes none ok e = absurd (cc)
 written_good s form at picture stream (Some place) r notes none ok e = absurd (cc)
 
@@ -188,8 +189,9 @@ tried_good s picture stream said tried = ap status_of tried.2
 -- Commands
 
 pub good_status : (command : Command) (input : List ℕ) (said : Said) → IsGood command input → IsCommandAnswer command input said → status_of said ≡ 0
-good_status (Encode settings form) input said good answer = encoded_good settings form input good said answer
+good_status (Encode settings form) input said good answer = ap status_of answer.whole ∙ encoded_good settings form input good answer.pictures answer.turns
 good_status (Decode Xs workers feeders) input said good answer = decoded_good input good said answer
 good_status (Decode Rtp workers feeders) input said good answer = captured_good input good said answer
+good_status (Decode (Pcap port) workers feeders) input said good answer = file_good port input good said answer
 good_status (Trial settings seed) input said good answer =
     tried_good settings (trial_picture settings.shape seed) good.0 said (subst (λ r. IsTriedBy settings (trial_picture settings.shape seed) r said) good.1 answer)

@@ -14,9 +14,14 @@ mod CapturedKnown
 mod CapturedTold
 mod CapturedSaid
 mod CapturedHalts
+mod Unwrapping
 mod CapturedOne
 mod CapturedWhole
 mod CapturedSent
 mod Done
+mod FileHalts
+mod FileOne
+mod FileSent
+mod Begun
 mod Good
 mod Runs

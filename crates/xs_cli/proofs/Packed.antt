@@ -1,4 +1,4 @@
--- The packets of an encoding: none of its units has too many, and each has room in a frame.
+-- The packets of an encoding: none of its units has too many, and each has room in its envelope.
 use Rattle.std.proofs.Common.{◌≡◌, ℕ, ◌+◌, ◌-◌, ◌*◌, ◌<◌, ◌≤◌, ◌++◌, List, [], length, drop, get_or, Ok, Err, refl, subst, arith}
 use Rattle.std.specs.Prelude.{All}
 use Rattle.std.specs.List.{Contains, flat_map, sum_by}
@@ -20,7 +20,8 @@ use Rattle.xs_rate.specs.Encoding.{encoding_of, slices_at}
 use Rattle.xs_rate.proofs.Encoded.{encoded_in_grammar}
 use Rattle.xs_rate.proofs.FirstOver.{first_over_law, same_stream}
 use Rattle.xs_rate.proofs.Headers.{components-few, few-bands, header-size}
-use Rattle.xs_capture.specs.Capture.{IsShort, frame}
+use Rattle.xs_cli.specs.declared.encoding.Envelope.{Envelope}
+use Rattle.xs_cli.specs.Encoded.{HasRoom, enveloped}
 use Rattle.xs_pack.specs.Datagrams.{IsPackable, SentUnit, datagram, datagrams_of, piece_count, piece_of, sent_unit, unit_datagrams, units_of}
 use Rattle.xs_pack.proofs.Cutting.{packable}
 use Rattle.xs_pack.proofs.Members.{of_flat, of_map}
@@ -55,17 +56,17 @@ encoding_packable s picture stream range e =
     packable s stream (omega (arith, chunk)) (omega (arith, is.count, few)) (omega (arith, chunk, boxes, few_header s picture stream range e))
     (λ k inside. let within = (is.each k (omega (arith, inside, is.count))).within in omega (arith, within, share, chunk))
 
--- Frames
+-- Envelopes
 
-short_datagram : (s : Settings) (unit : SentUnit) (piece : ℕ) → s.chunk ≤ 8192 → IsShort (datagram s unit piece)
+short_datagram : (s : Settings) (unit : SentUnit) (piece : ℕ) → s.chunk ≤ 8192 → HasRoom (datagram s unit piece)
 short_datagram s unit piece few =
     let cut : length (piece_of s.chunk unit.bytes piece) ≤ s.chunk = omega (arith, length-take s.chunk (drop (piece * s.chunk) unit.bytes)) in
     let size : length (datagram s unit piece) ≡ 16 + length (piece_of s.chunk unit.bytes piece) = omega arith in
     omega (arith, cut, size, few)
 
--- each packet has room in a frame
-pub short_datagrams : (s : Settings) (stream : Stream) (picture sequence : ℕ) → AreInRange s → All IsShort (datagrams_of s stream picture sequence)
-short_datagrams s stream picture sequence range = All-from_get_or IsShort packets [] (λ n inside. one (get_or packets n []) (Contains-get_or packets n [] inside))
+-- each packet has room in a frame, and in a record
+pub short_datagrams : (s : Settings) (stream : Stream) (picture sequence : ℕ) → AreInRange s → All HasRoom (datagrams_of s stream picture sequence)
+short_datagrams s stream picture sequence range = All-from_get_or HasRoom packets [] (λ n inside. one (get_or packets n []) (Contains-get_or packets n [] inside))
   where
     packets : List (List ℕ)
     packets = datagrams_of s stream picture sequence
@@ -73,18 +74,19 @@ short_datagrams s stream picture sequence range = All-from_get_or IsShort packet
     unit_of : ℕ → SentUnit
     unit_of unit = sent_unit s (units_of s.boxes stream) picture sequence unit
 
-    one : (packet : List ℕ) → Contains packets packet → IsShort packet
+    one : (packet : List ℕ) → Contains packets packet → HasRoom packet
     one packet there =
         let unit = of_flat (λ unit. unit_datagrams s (unit_of unit)) (upto (length (units_of s.boxes stream))) packet there in
         let piece = of_map (datagram s (unit_of unit.0)) (upto (piece_count s.chunk (unit_of unit.0).bytes)) packet unit.2 in
-        subst IsShort piece.2 (short_datagram s (unit_of unit.0) piece.0 range.chunk.1)
+        subst HasRoom piece.2 (short_datagram s (unit_of unit.0) piece.0 range.chunk.1)
 
--- the frames of packets from a number on
-pub frame_next : (packets : List (List ℕ)) (at : ℕ) → at < length packets → flat_map frame (drop at packets) ≡ frame (get_or packets at []) ++ flat_map frame (drop (at + 1) packets)
-frame_next packets at below = at_drop_more (flat_map frame) packets at [] below
+-- the packets from a number on, each in its envelope
+pub frame_next : (envelope : Envelope) (packets : List (List ℕ)) (at : ℕ) → at < length packets
+    → flat_map (enveloped envelope) (drop at packets) ≡ enveloped envelope (get_or packets at []) ++ flat_map (enveloped envelope) (drop (at + 1) packets)
+frame_next envelope packets at below = at_drop_more (flat_map (enveloped envelope)) packets at [] below
 
-pub frames_none : (packets : List (List ℕ)) (at : ℕ) → length packets ≤ at → flat_map frame (drop at packets) ≡ []
-frames_none packets at end = at_drop_all (flat_map frame) packets at end
+pub frames_none : (envelope : Envelope) (packets : List (List ℕ)) (at : ℕ) → length packets ≤ at → flat_map (enveloped envelope) (drop at packets) ≡ []
+frames_none envelope packets at end = at_drop_all (flat_map (enveloped envelope)) packets at end
 
 -- a piece that was cut
 pub cut_taken : (output : Change) (piece : List ℕ) (size packets : ℕ) (why : Stop) → IsGiven {T = Unit {0}} output piece (Err why) → IsTaken output (Writes size piece packets) (Err why)

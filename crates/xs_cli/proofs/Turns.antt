@@ -16,7 +16,7 @@ use Rattle.xs_notes.specs.declared.note.Note.TheVariants as note
 use Rattle.xs_endings.specs.Turns.{Before, Ends, Turn, Writes}
 use Rattle.xs_endings.proofs.Pictures.{Goes}
 use Rattle.xs_words.specs.declared.command.Form.{Form}
-use Rattle.xs_words.specs.declared.command.Form.TheVariants.{Rtp, Xs}
+use Rattle.xs_words.specs.declared.command.Form.TheVariants.{Rtp, Xs, Pcap}
 use Rattle.xs_cli.specs.Encoded.{IsEncodeTurn, encode_turn, encoded_as, ends_before, first_picture, too_many, turn_unless}
 
 -- Tests in an order
@@ -104,6 +104,7 @@ writes_not_ends size piece packets (Some notes) turn e = absurd (cc)
 written_size : (s : Settings) (form : Form) (at : Before) (r : Result Stream Budget) (size : ℕ) (piece : List ℕ) (packets : ℕ) → Writes size piece packets ≡ encoded_as s form at r → size ≡ raw_size s.shape
 written_size s Xs at (Ok stream) size piece packets e = cc
 written_size s Rtp at (Ok stream) size piece packets e = cc
+written_size s (Pcap port) at (Ok stream) size piece packets e = cc
 written_size s form at (Err budget) size piece packets e = absurd (cc)
 
 pub record IsWholePicture (s : Settings) (at : Before) (input : List ℕ) (size : ℕ) : Type 0 where

@@ -28,10 +28,8 @@ use Rattle.xs_endings.proofs.Changes.{front_of_none, rose_after}
 use Rattle.xs_endings.proofs.Pictures.{finished, fronts, left_to_tell}
 use Rattle.xs_endings.proofs.Turns.{joined_more, written_more, written_whatever_follows}
 use Rattle.xs_words.specs.declared.command.Form.{Form}
-use Rattle.xs_words.specs.declared.command.Command.TheVariants.{Encode}
-use Rattle.xs_cli.specs.Answer.{most_wanted}
 use Rattle.xs_cli.specs.Encoded.{IsEncodeTurn, encode_turn, too_many}
-use Rattle.xs_cli.specs.Steps.{IsDone, IsOwnNote, IsRead}
+use Rattle.xs_cli.specs.Steps.{ArePicturesDone, IsOwnNote, IsRead}
 use Rattle.xs_cli.specs.Places.{IsStreamAt}
 use Rattle.xs_cli.proofs.Inputs.{HasRest, front_of, no_bytes, rest_of, used_up}
 use Rattle.xs_cli.proofs.Turns.{encode_goes, end_turn, many_turn, more_behind, writes_whole}
@@ -98,13 +96,13 @@ module _ (s : Settings) (form : Form) (a b c p q r : Option (List ℕ)) (f g h u
       }
 
   -- how far the source was taken
-  took : (want : ℕ) (front : List ℕ) → at.bytes + want ≤ most_pictures * raw_size s.shape + 1 → length front ≤ want → Consumes b c front → TookAtMost (most_wanted (Encode s form)) (change_of a c f h)
+  took : (want : ℕ) (front : List ℕ) → at.bytes + want ≤ most_pictures * raw_size s.shape + 1 → length front ≤ want → Consumes b c front → TookAtMost (most_pictures * raw_size s.shape + 1) (change_of a c f h)
   took want front room short consumed =
       (before.taken ++ front, omega (arith, length-append before.taken front, before.size, room, short), Consumes-trans a b c before.taken front before.consumed consumed)
 
   -- nothing is left
   pub done : (want : ℕ) → 1 ≤ want → at.bytes + want ≤ most_pictures * raw_size s.shape + 1 → IsRead want (change_of b c g h) (Ok []) → (held : Option (List ℕ)) (faults : ℕ)
-      → IsDone (Encode s form) (ends_of (change_of a c f h) (change_of p q u v) (untouched held faults)) (Ok 0)
+      → ArePicturesDone s form (ends_of (change_of a c f h) (change_of p q u v) (untouched held faults)) (Ok 0)
   done want some room read held faults =
       let end = read.2 (omega (arith, some)) in
       let all = Consumes-trans a b c before.taken [] before.consumed read.0 in
@@ -118,14 +116,13 @@ module _ (s : Settings) (form : Form) (a b c p q r : Option (List ℕ)) (f g h u
         stop = inl refl;
         whole = λ _. used_up a c f h before.taken consumed end;
         most = took want [] room (omega arith) read.0;
-        untaken = λ never. absurd never;
         later = omega arith;
       }
 
   -- the run ends with a note
   pub told : (want : ℕ) (bytes : List ℕ) (why : Note) → at.bytes + want ≤ most_pictures * raw_size s.shape + 1 → AreByteItems bytes → IsRead want (change_of b c g h) (Ok bytes)
       → ((rest : List ℕ) → (length bytes < want → rest ≡ []) → encode_turn s form at (bytes ++ rest) ≡ Ends (why ∷ [])) → IsOwnNote (stop.Told why) → Appends p r (concat before.pieces)
-      → (held : Option (List ℕ)) (faults : ℕ) → IsDone (Encode s form) (ends_of (change_of a c f h) (change_of p r u w) (untouched held faults)) (Err (stop.Told why))
+      → (held : Option (List ℕ)) (faults : ℕ) → ArePicturesDone s form (ends_of (change_of a c f h) (change_of p r u w) (untouched held faults)) (Err (stop.Told why))
   told want bytes why room are read turn own given held faults =
       let all = before.taken ++ bytes in
       let consumed = Consumes-trans a b c before.taken bytes before.consumed read.0 in
@@ -139,13 +136,12 @@ module _ (s : Settings) (form : Form) (a b c p q r : Option (List ℕ)) (f g h u
         stop = own;
         whole = λ e. absurd (cc);
         most = took want bytes room read.1 read.0;
-        untaken = λ never. absurd never;
         later = omega arith;
       }
 
   -- the source failed
   pub failed : (want : ℕ) → at.bytes + want ≤ most_pictures * raw_size s.shape + 1 → want ≤ raw_size s.shape → IsRead want (change_of b c g h) (Err stop.ReadFault) → (held : Option (List ℕ)) (faults : ℕ)
-      → IsDone (Encode s form) (ends_of (change_of a c f h) (change_of p q u v) (untouched held faults)) (Err stop.ReadFault)
+      → ArePicturesDone s form (ends_of (change_of a c f h) (change_of p q u v) (untouched held faults)) (Err stop.ReadFault)
   failed want room within read held faults =
       let found = front_of a b c before.taken read.1 want before.bytes before.consumed read.3 read.2 in
       record {
@@ -172,13 +168,12 @@ module _ (s : Settings) (form : Form) (a b c p q r : Option (List ℕ)) (f g h u
         stop = tt;
         whole = λ e. absurd (cc);
         most = (before.taken ++ found.front, omega (arith, length-append before.taken found.front, before.size, room, found.short), found.consumed);
-        untaken = λ never. absurd never;
         later = omega arith;
       }
 
   -- memory was wanting for reading
   pub starved : (want : ℕ) → at.bytes + want ≤ most_pictures * raw_size s.shape + 1 → IsRead want (change_of b c g h) (Err stop.Memory) → (held : Option (List ℕ)) (faults : ℕ)
-      → IsDone (Encode s form) (ends_of (change_of a c f h) (change_of p q u v) (untouched held faults)) (Err stop.Memory)
+      → ArePicturesDone s form (ends_of (change_of a c f h) (change_of p q u v) (untouched held faults)) (Err stop.Memory)
   starved want room read held faults =
       let rest = rest_of a b before.taken before.bytes before.consumed in
       let input = before.taken ++ rest.rest in
@@ -189,13 +184,12 @@ module _ (s : Settings) (form : Form) (a b c p q r : Option (List ℕ)) (f g h u
         stop = tt;
         whole = λ e. absurd (cc);
         most = took want read.0 room read.1 read.2;
-        untaken = λ never. absurd never;
         later = omega arith;
       }
 
   -- either
   pub unread : (want : ℕ) (why : Stop) → at.bytes + want ≤ most_pictures * raw_size s.shape + 1 → want ≤ raw_size s.shape → IsRead want (change_of b c g h) (Err why) → (held : Option (List ℕ)) (faults : ℕ)
-      → IsDone (Encode s form) (ends_of (change_of a c f h) (change_of p q u v) (untouched held faults)) (Err why)
+      → ArePicturesDone s form (ends_of (change_of a c f h) (change_of p q u v) (untouched held faults)) (Err why)
   unread want stop.ReadFault room within read held faults = failed want room within read held faults
   unread want stop.Memory room within read held faults = starved want room read held faults
   unread want stop.WriteFault room within read held faults = absurd read
@@ -210,7 +204,7 @@ module _ (s : Settings) (form : Form) (a b c p q r : Option (List ℕ)) (f g h u
   -- the output failed, or memory was wanting for a picture
   pub cut : (bytes : List ℕ) (why : Stop) → at.bytes + raw_size s.shape ≤ most_pictures * raw_size s.shape + 1 → 1 ≤ length bytes → at.pictures < most_pictures → AreByteItems bytes
       → IsRead (raw_size s.shape) (change_of b c g h) (Ok bytes) → IsTaken (change_of q r v w) (encode_turn s form at bytes) (Err why) → IsOwnNote why
-      → (held : Option (List ℕ)) (faults : ℕ) → IsDone (Encode s form) (ends_of (change_of a c f h) (change_of p r u w) (untouched held faults)) (Err why)
+      → (held : Option (List ℕ)) (faults : ℕ) → ArePicturesDone s form (ends_of (change_of a c f h) (change_of p r u w) (untouched held faults)) (Err why)
   cut bytes why room some few are read taken own held faults =
       let all = before.taken ++ bytes in
       let consumed = Consumes-trans a b c before.taken bytes before.consumed read.0 in
@@ -224,7 +218,7 @@ module _ (s : Settings) (form : Form) (a b c p q r : Option (List ℕ)) (f g h u
       ]
 
       by_why : (why : Stop) → (rest : HasRest a c (before.taken ++ bytes)) → IsTaken (change_of q r v w) (encode_turn s form at bytes) (Err why) → IsOwnNote why
-          → IsDone (Encode s form) (ends_of (change_of a c f h) (change_of p r u w) (untouched held faults)) (Err why)
+          → ArePicturesDone s form (ends_of (change_of a c f h) (change_of p r u w) (untouched held faults)) (Err why)
       by_why (stop.Told why) rest taken own =
           told (raw_size s.shape) bytes why room are read (λ more end. same_turn bytes more some few end ∙ taken.ends) own (Appends-kept p q r (concat before.pieces) before.given taken.kept) held faults
       by_why stop.ReadFault rest taken own = absurd taken
@@ -237,7 +231,6 @@ module _ (s : Settings) (form : Form) (a b c p q r : Option (List ℕ)) (f g h u
             stop = tt;
             whole = λ e. absurd (cc);
             most = took (raw_size s.shape) bytes room read.1 read.0;
-            untaken = λ never. absurd never;
             later = omega arith;
           }
       by_why stop.Memory rest taken own =
@@ -249,7 +242,6 @@ module _ (s : Settings) (form : Form) (a b c p q r : Option (List ℕ)) (f g h u
             stop = tt;
             whole = λ e. absurd (cc);
             most = took (raw_size s.shape) bytes room read.1 read.0;
-            untaken = λ never. absurd never;
             later = omega arith;
           }
 

@@ -7,20 +7,19 @@ use Rattle.xs_notes.specs.declared.note.Note.{Note}
 use Rattle.xs_notes.specs.declared.note.Note.TheVariants as note
 use Rattle.xs_endings.specs.Said.{Said, only_note}
 use Rattle.xs_endings.specs.Ends.{Change, IsUsedUp}
-use Rattle.xs_endings.specs.Turns.{HasSaidAll}
 use Rattle.xs_words.specs.declared.command.Refusal.{Refusal}
 use Rattle.xs_words.specs.declared.command.Refusal.TheVariants as refusal
 use Rattle.xs_words.specs.declared.command.Command.{Command}
 use Rattle.xs_words.specs.declared.command.Command.TheVariants.{Encode, Decode, Trial}
 use Rattle.xs_words.specs.Refusal.{refusal_of}
 use Rattle.xs_words.specs.Command.{command_of}
-use Rattle.xs_cli.specs.Encoded.{IsEncodeTurn, StandsAfter}
+use Rattle.xs_cli.specs.Encoded.{EncodedStandsAfter, IsEncoded}
 use Rattle.xs_cli.specs.Decoded.{IsDecoded, input_limit}
 use Rattle.xs_cli.specs.Tried.{IsTried}
 
 -- the answer of a command whose settings are in range
 abbrev pub IsCommandAnswer : Command → List ℕ → Said → Type 0
-IsCommandAnswer (Encode settings form) = HasSaidAll (IsEncodeTurn settings form)
+IsCommandAnswer (Encode settings form) = IsEncoded settings form
 IsCommandAnswer (Decode form workers feeders) = IsDecoded form
 IsCommandAnswer (Trial settings seed) = λ input. IsTried settings seed
 
@@ -48,7 +47,7 @@ most_wanted (Trial settings seed) = 0
 -- what stands in the output where the source failed after these bytes: of `encode` the pictures that are whole in them, of `decode` nothing; `trial`
 -- has no source to fail
 abbrev pub CommandStandsAfter : Command → List ℕ → List ℕ → Type 0
-CommandStandsAfter (Encode settings form) taken out = StandsAfter settings form taken out
+CommandStandsAfter (Encode settings form) taken out = EncodedStandsAfter settings form taken out
 CommandStandsAfter (Decode form workers feeders) taken out = out ≡ []
 CommandStandsAfter (Trial settings seed) taken out = ⊥
 

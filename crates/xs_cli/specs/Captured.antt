@@ -1,11 +1,16 @@
 -- What `decode` writes and says of a capture: 'Command words', 'RTP packets and captures' and 'Notes'.
-use Rattle.std.specs.Prelude.{◌≡◌, ℕ, true, false, nat_eq, if◌then◌else◌, Result, Ok, Err, List, [], ◌∷◌, ◌++◌, map}
+use Rattle.std.specs.Prelude.{◌≡◌, ℕ, ◌+◌, Option, None, Some, true, false, nat_eq, if◌then◌else◌, Result, Ok, Err, List, [], ◌∷◌, ◌++◌, map}
 use Rattle.xs_params.specs.Picture.{raw_bytes}
 use Rattle.xs_capture.specs.declared.pictures.SortFault.{SortFault}
 use Rattle.xs_capture.specs.declared.pictures.SortFault.TheVariants as sort
 use Rattle.xs_capture.specs.Offer.{Offer}
 use Rattle.xs_capture.specs.Pictures.{IsSorted, Sorting}
 use Rattle.xs_capture.specs.Selection.{Held, IsSelection}
+use Rattle.xs_pcap.specs.declared.fault.PcapFault.{PcapFault}
+use Rattle.xs_pcap.specs.declared.fault.PcapFault.TheVariants as pcap
+use Rattle.xs_pcap.specs.declared.unwrapping.Unwrapped.{Unwrapped}
+use Rattle.xs_pcap.specs.File.{pcap_fault}
+use Rattle.xs_pcap.specs.Unwrapped.{IsUnwrapped}
 use Rattle.xs_recv.specs.declared.received.Damage.{Damage}
 use Rattle.xs_recv.specs.declared.received.Damage.TheVariants as damage
 use Rattle.xs_recv.specs.declared.received.Received.{Received}
@@ -69,3 +74,40 @@ pub record IsCaptured (input : List ℕ) (said : Said) : Type 0 where
   pub sorted : Result Sorting SortFault
   pub sorts : IsSorted input sorted
   pub answer : IsSaidOfSorted sorted said
+
+-- Pcap files
+
+abbrev pub with_stepped : Sorting → ℕ → Sorting
+with_stepped sorting stepped = record sorting { stepped = stepped }
+
+-- so many records were stepped over besides
+abbrev pub also_stepped : ℕ → Result Sorting SortFault → Result Sorting SortFault
+also_stepped records (Ok sorting) = Ok (with_stepped sorting (sorting.stepped + records))
+also_stepped records (Err fault) = Err fault
+
+-- the answer of a capture that was unwrapped, where so many records were stepped over
+pub record IsCapturedAfter (records : ℕ) (input : List ℕ) (said : Said) : Type 0 where
+  pub sorted : Result Sorting SortFault
+  pub sorts : IsSorted input sorted
+  pub answer : IsSaidOfSorted (also_stepped records sorted) said
+
+-- a file is answered as the capture that it is unwrapped to
+pub record IsUnwrappedAnswer (port : ℕ) (input : List ℕ) (said : Said) : Type 0 where
+  pub unwrapped : Unwrapped
+  pub file : IsUnwrapped input port unwrapped
+  pub answer : IsCapturedAfter unwrapped.stepped unwrapped.capture said
+
+-- the note on a file that is none; want of memory is no fault of bytes
+abbrev pub file_notes : PcapFault → List Note
+file_notes (pcap.Cut place) = note.InputCut place ∷ []
+file_notes (pcap.Magic value) = note.InputMagic value ∷ []
+file_notes (pcap.Link value) = note.InputLink value ∷ []
+file_notes pcap.Memory = []
+
+abbrev pub IsFileUnless : Option PcapFault → ℕ → List ℕ → Said → Type 0
+IsFileUnless None port input said = IsUnwrappedAnswer port input said
+IsFileUnless (Some fault) port input said = said ≡ record { out = []; notes = file_notes fault }
+
+-- the answer of an input that is a pcap file, of which the datagrams to a port are taken
+abbrev pub IsFileAnswer : ℕ → List ℕ → Said → Type 0
+IsFileAnswer port input = IsFileUnless (pcap_fault input) port input

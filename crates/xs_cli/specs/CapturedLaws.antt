@@ -1,5 +1,6 @@
 -- Laws of what is said of a capture.
-use Rattle.std.specs.Prelude.{◌≡◌, ◌↔◌, ⊤, ℕ, ◌+◌, ◌≤◌, List, [], ◌∷◌, ◌++◌, length, flat_map, Contains}
+use Rattle.std.specs.Prelude.{◌≡◌, ◌↔◌, ◌⊎◌, ⊤, ℕ, ◌+◌, ◌^◌, ◌<◌, ◌≤◌, map, List, [], ◌∷◌, ◌++◌, length, flat_map, Contains}
+use Rattle.std.specs.List.{AllByRecursion}
 use Rattle.xs_lists.specs.Packing.{AreBytes}
 use Rattle.xs_params.specs.declared.header.Header.{Header}
 use Rattle.xs_params.specs.declared.settings.Settings.{Settings}
@@ -14,10 +15,14 @@ use Rattle.xs_capture.specs.Pictures.{most_pictures}
 use Rattle.xs_pack.specs.Datagrams.{datagrams_of, units_of}
 use Rattle.xs_pack.specs.Laws.{HaveSame}
 use Rattle.xs_pack.specs.Sent.{AreSendable}
+use Rattle.xs_pcap.specs.declared.unwrapping.Unwrapped.{Unwrapped}
+use Rattle.xs_pcap.specs.Laws.{IsEntry}
+use Rattle.xs_pcap.specs.Unwrapped.{IsUnwrapped}
+use Rattle.xs_pcap.specs.Wrapped.{wrapped_file}
 use Rattle.xs_recv.specs.Laws.{IsStreamOf}
 use Rattle.xs_endings.specs.Said.{Said}
-use Rattle.xs_words.specs.declared.command.Form.TheVariants.{Rtp}
-use Rattle.xs_cli.specs.Captured.{IsCaptured}
+use Rattle.xs_words.specs.declared.command.Form.TheVariants.{Rtp, Pcap}
+use Rattle.xs_cli.specs.Captured.{IsCaptured, IsFileAnswer}
 use Rattle.xs_cli.specs.Decoded.{IsDecoded, input_limit}
 
 -- each input of bytes has an answer
@@ -29,6 +34,13 @@ abbrev pub OneCaptured : Type 0
 OneCaptured = (packets others : List (List ℕ)) (bytes more : List ℕ) (said other : Said) → IsCapture packets bytes → IsCapture others more → AreBytes bytes
     → ((p : Offer) → Contains (offers_of packets) p ↔ Contains (offers_of others) p) → stepped_of packets ≡ stepped_of others → AllAgree (offers_of packets)
     → IsCaptured bytes said → IsCaptured more other → said ≡ other
+
+-- The same of pcap files: with the packets that are none, the records count that were stepped over.
+abbrev pub OneFile : Type 0
+OneFile = (port asked : ℕ) (file other : List ℕ) (u v : Unwrapped) (packets others : List (List ℕ)) (said answer : Said) → IsUnwrapped file port u → IsUnwrapped other asked v
+    → IsCapture packets u.capture → IsCapture others v.capture → AreBytes file
+    → ((p : Offer) → Contains (offers_of packets) p ↔ Contains (offers_of others) p) → stepped_of packets + u.stepped ≡ stepped_of others + v.stepped → AllAgree (offers_of packets)
+    → IsFileAnswer port file said → IsFileAnswer asked other answer → said ≡ answer
 
 -- a picture that is sent: the number of its first packet, its codestream, and what that is decoded to
 pub record Sent : Type 0 where
@@ -61,3 +73,10 @@ SentIsWritten = (s : Settings) (sent : List Sent) (arrived : List (List ℕ)) (i
     → 1 ≤ s.step → length sent ≤ most_pictures → AreSentFrom s 0 sent → HaveSame arrived (packets_from s 0 sent)
     → IsCapture arrived input → AreBytes input → length input ≤ input_limit
     → IsDecoded Rtp input said → said ≡ record { out = flat_map (λ (one : Sent). raw_bytes one.picture) sent; notes = [] }
+
+-- The same of a pcap file: exactly the packets of pictures, each beside some timestamp, are wrapped for a port, and are asked for by that port or by any.
+abbrev pub FileIsWritten : Type 0
+FileIsWritten = (s : Settings) (sent : List Sent) (port asked : ℕ) (arrived : List (ℕ × List ℕ)) (said : Said)
+    → 1 ≤ s.step → length sent ≤ most_pictures → AreSentFrom s 0 sent → HaveSame (map (λ (entry : ℕ × List ℕ). entry.1) arrived) (packets_from s 0 sent)
+    → port < 2 ^ 16 → (asked ≡ 0) ⊎ (asked ≡ port) → AllByRecursion IsEntry arrived → AreBytes (wrapped_file port arrived) → length (wrapped_file port arrived) ≤ input_limit
+    → IsDecoded (Pcap asked) (wrapped_file port arrived) said → said ≡ record { out = flat_map (λ (one : Sent). raw_bytes one.picture) sent; notes = [] }

@@ -16,8 +16,8 @@ use Rattle.xs_notes.specs.declared.note.Note.TheVariants as note
 use Rattle.xs_endings.specs.Said.{Said, only_note}
 use Rattle.xs_endings.specs.Turns.{Before, Ends, HasSaidAll, Turn, Writes}
 use Rattle.xs_words.specs.declared.command.Form.{Form}
-use Rattle.xs_words.specs.declared.command.Form.TheVariants.{Rtp, Xs}
-use Rattle.xs_cli.specs.Captured.{IsCaptured}
+use Rattle.xs_words.specs.declared.command.Form.TheVariants.{Rtp, Xs, Pcap}
+use Rattle.xs_cli.specs.Captured.{IsCaptured, IsFileAnswer}
 use Rattle.xs_cli.specs.Encoded.{too_many}
 
 -- the most bytes of an input
@@ -61,10 +61,11 @@ IsDecodeTurn before rest turn = IsTurnUnless (first_some (decode_ends before res
 
 -- The answer, where an input over the limit is refused first
 
--- of codestreams, or of a capture
+-- of codestreams, or of a capture, or of a pcap file
 abbrev pub IsFormAnswer : Form → List ℕ → Said → Type 0
 IsFormAnswer Xs = HasSaidAll IsDecodeTurn
 IsFormAnswer Rtp = IsCaptured
+IsFormAnswer (Pcap port) = IsFileAnswer port
 
 abbrev pub IsDecoded : Form → List ℕ → Said → Type 0
 IsDecoded form input said = MatchBool (nat_lt input_limit (length input)) (said ≡ only_note (note.InputLimit input_limit)) (IsFormAnswer form input said)

@@ -13,11 +13,13 @@ use Rattle.xs_capture.specs.Offer.{Offer}
 use Rattle.xs_capture.specs.Offers.{AllAgree, offers_at, offers_of}
 use Rattle.xs_capture.specs.Pictures.{AreTimestamps, most_pictures}
 use Rattle.xs_capture.specs.Selection.{Held, IsSelection}
+use Rattle.xs_pcap.specs.declared.unwrapping.Unwrapped.{Unwrapped}
+use Rattle.xs_pcap.specs.Unwrapped.{IsUnwrapped}
 use Rattle.xs_recv.specs.Received.{AreSpelled, AreUnits, HasHeader, stream_size}
 use Rattle.xs_words.specs.declared.command.Command.{Command}
 use Rattle.xs_words.specs.declared.command.Command.TheVariants.{Encode, Decode, Trial}
 use Rattle.xs_words.specs.declared.command.Form.{Form}
-use Rattle.xs_words.specs.declared.command.Form.TheVariants.{Rtp, Xs}
+use Rattle.xs_words.specs.declared.command.Form.TheVariants.{Rtp, Xs, Pcap}
 use Rattle.xs_trial.specs.Generator.{trial_picture}
 use Rattle.xs_cli.specs.Decoded.{input_limit}
 use Rattle.xs_cli.specs.Encoded.{first_picture}
@@ -76,9 +78,18 @@ pub record IsGoodCapture (input : List ℕ) : Type 0 where
   pub most : length timestamps ≤ most_pictures
   pub pictures : (timestamp : ℕ) → Contains timestamps timestamp → AreWhole (offers_at timestamp (offers_of packets))
 
+-- a pcap file that is unwrapped to such a capture
+pub record IsGoodFile (port : ℕ) (input : List ℕ) : Type 0 where
+  pub bytes : AreBytes input
+  pub within : length input ≤ input_limit
+  pub unwrapped : Unwrapped
+  pub file : IsUnwrapped input port unwrapped
+  pub capture : IsGoodCapture unwrapped.capture
+
 abbrev pub IsGoodForm : Form → List ℕ → Type 0
 IsGoodForm Xs input = AreGoodStreams input
 IsGoodForm Rtp input = IsGoodCapture input
+IsGoodForm (Pcap port) input = IsGoodFile port input
 
 abbrev pub IsGood : Command → List ℕ → Type 0
 IsGood (Encode settings form) input = AreGoodPictures settings input

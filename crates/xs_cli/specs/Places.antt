@@ -12,7 +12,7 @@ use Rattle.xs_cli.specs.Encoded.{encode_turn, written_as}
 abbrev pub before_of : Place → Before
 before_of place = record { pictures = place.picture; bytes = place.byte; sequence = place.sequence }
 
--- in either form the turn writes the codestream, or ends the run with the note; want of memory is free
+-- in each form the turn writes the codestream, or ends the run with the note; want of memory is free
 abbrev pub IsStreamAt : Settings → Before → List ℕ → Result Stream Stop → Type 0
 IsStreamAt s before bytes (Ok stream) = (form : Form) → encode_turn s form before bytes ≡ written_as s form before stream
 IsStreamAt s before bytes (Err (stop.Told note)) = (form : Form) → encode_turn s form before bytes ≡ Ends (note ∷ [])

@@ -1,14 +1,17 @@
 -- What the steps of a run owe beside its halt.
-use Rattle.std.specs.Prelude.{◌≡◌, ℕ, ◌-◌, ◌<◌, ◌≤◌, ◌⊎◌, ⊤, Option, None, Some, Result, Ok, Err, List, [], ◌∷◌, length}
+use Rattle.std.specs.Prelude.{◌≡◌, ℕ, ◌+◌, ◌*◌, ◌-◌, ◌<◌, ◌≤◌, ◌⊎◌, ⊤, Option, None, Some, Result, Ok, Err, List, [], ◌∷◌, length}
 use Rattle.std.specs.Io.KnownBytes.{Consumes, IsAtEnd}
+use Rattle.xs_params.specs.declared.settings.Settings.{Settings}
 use Rattle.xs_params.specs.Geometry.{slice_count}
+use Rattle.xs_params.specs.Picture.{raw_size}
+use Rattle.xs_capture.specs.Pictures.{most_pictures}
 use Rattle.xs_faults.specs.declared.SliceFault.TheVariants as slice_fault
 use Rattle.xs_markers.specs.Reading.{header_at}
 use Rattle.xs_notes.specs.declared.note.Note.TheVariants as note
 use Rattle.xs_notes.specs.Lines.{NamesFault}
 use Rattle.xs_endings.specs.declared.stop.Stop.{Stop}
 use Rattle.xs_endings.specs.declared.stop.Stop.TheVariants as stop
-use Rattle.xs_endings.specs.Ends.{Change, Ends, Got, HasFailed, IsLater, IsUntouched, TookAtMost, WasLeft, ends_of, untouched}
+use Rattle.xs_endings.specs.Ends.{Change, Ends, Got, HasFailed, IsLater, IsUntouched, IsUsedUp, TookAtMost, WasLeft, ends_of, untouched}
 use Rattle.xs_endings.specs.Said.{note_status}
 use Rattle.xs_endings.specs.Steps.{IsHalt}
 use Rattle.xs_endings.specs.Turns.{Before, Ends as Ending, HasSaidAll, IsTaken, Turn, Writes}
@@ -16,6 +19,8 @@ use Rattle.xs_words.specs.declared.command.Refusal.{Refusal}
 use Rattle.xs_words.specs.Refusal.{refusal_of}
 use Rattle.xs_words.specs.Command.{command_of}
 use Rattle.xs_words.specs.declared.command.Command.{Command}
+use Rattle.xs_words.specs.declared.command.Form.{Form}
+use Rattle.xs_cli.specs.Encoded.{IsEncodeTurn, StandsAfter}
 use Rattle.xs_cli.specs.Decoded.{IsDecodeTurn}
 use Rattle.xs_cli.specs.Answer.{IsAnswer, IsCommandAnswer, IsCommandStanding, IsStanding, IsTrial, IsUnread, LeavesEnd, most_wanted, refusal_note}
 
@@ -47,6 +52,25 @@ pub record IsDone (command : Command) (ends : Ends) (result : Result ℕ Stop) :
 -- a command that tells nothing itself owes the same, whatever the notes are
 abbrev pub IsDoneQuietly : Command → Change → Change → Result ℕ Stop → Type 0
 IsDoneQuietly command source output result = (held : Option (List ℕ)) (faults : ℕ) → IsDone command (ends_of source output (untouched held faults)) result
+
+-- Encoding
+
+pub record ArePicturesStanding (s : Settings) (form : Form) (taken out : List ℕ) : Type 0 where
+  pub most : length taken ≤ most_pictures * raw_size s.shape + 1
+  pub stands : StandsAfter s form taken out
+
+-- what is owed of the pictures, after what is written before them
+pub record ArePicturesDone (s : Settings) (form : Form) (ends : Ends) (result : Result ℕ Stop) : Type 0 where
+  pub input : List ℕ
+  pub left : WasLeft ends.input input
+  pub halt : IsHalt (HasSaidAll (IsEncodeTurn s form) input) (ArePicturesStanding s form) input ends result
+  pub stop : IsCommandStop result
+  pub whole : result ≡ Ok 0 → IsUsedUp ends.input
+  pub most : TookAtMost (most_pictures * raw_size s.shape + 1) ends.input
+  pub later : IsLater ends.notes
+
+abbrev pub AreDoneQuietly : Settings → Form → Change → Change → Result ℕ Stop → Type 0
+AreDoneQuietly s form source output result = (held : Option (List ℕ)) (faults : ℕ) → ArePicturesDone s form (ends_of source output (untouched held faults)) result
 
 -- Reading
 

@@ -13,6 +13,7 @@ ghost use Rattle.xs_cli.specs.Steps.{AreStreamsDecoded, IsBadEnd, IsCommandStop,
 use crate::input::{DONE, MOST_PICTURES};
 use crate::receiving::Crew;
 use std::alloc::Global;
+use std::thread::Threads;
 use xs_endings::{Stop, give};
 use xs_faults::{HeadFault, SliceFault, StreamFault};
 use xs_io::{Gate, Memory, Sink, Source, TakeFault, take_all};
@@ -33,10 +34,11 @@ pub struct Decoding {
 }
 
 impl Decoding {
-    /// Reads the whole input, and decodes the codestreams in it or receives the pictures of the capture that it is. Past its
+    /// Reads the whole input, and decodes the codestreams in it or receives the pictures of the capture or pcap file that it is. Past its
     /// limit one byte is taken.
-    pub fn decode<R: Source, W: Sink, N: Sink, G: Gate>(
+    pub fn decode<T: Threads + Sync, R: Source, W: Sink, N: Sink, G: Gate>(
         &self,
+        threads: &T,
         alloc: Global,
         input: &mut R,
         output: &mut W,
@@ -55,7 +57,18 @@ impl Decoding {
                 Form::Xs => streams(alloc, bytes.as_slice(), output),
                 Form::Rtp => self
                     .crew
-                    .receive(alloc, bytes.as_slice(), output, notes, gate),
+                    .receive(threads, alloc, bytes.as_slice(), 0, output, notes, gate),
+                Form::Pcap { port } => {
+                    self.crew.receive_file(
+                        threads,
+                        alloc,
+                        bytes.as_slice(),
+                        port,
+                        output,
+                        notes,
+                        gate,
+                    )
+                }
             },
             Err(TakeFault::Limit) => Err(Stop::Told(Note::InputLimit { limit: INPUT_LIMIT })),
             Err(TakeFault::Failed) => Err(Stop::ReadFault),

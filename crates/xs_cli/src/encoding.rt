@@ -1,5 +1,5 @@
 // Raw pictures become codestreams, one after the other: 'Command words'.
-ghost use Rattle.std.specs.Prelude.{◌≡◌, ◌≢◌, ◌+◌, ◌*◌, ◌%◌, ◌<◌, ◌≤◌, ◌^◌, ℕ, [], IfErr, length, flat_map, All, IfOk};
+ghost use Rattle.std.specs.Prelude.{◌≡◌, ◌≢◌, ◌+◌, ◌++◌, ◌*◌, ◌%◌, ◌<◌, ◌≤◌, ◌^◌, ℕ, [], IfErr, length, flat_map, All, IfOk, is_ok, if◌then◌else◌};
 ghost use Rattle.xs_params.specs.Check.{AreInRange};
 ghost use Rattle.xs_params.specs.Picture.{raw_size};
 ghost use Rattle.xs_words.specs.declared.command.Command.TheVariants as Commands;
@@ -8,22 +8,22 @@ ghost use Rattle.xs_endings.specs.Ends.{IsLater, change_of};
 ghost use Rattle.xs_endings.specs.Steps.{IsGiven};
 ghost use Rattle.xs_endings.specs.Turns.{IsTaken, Writes};
 ghost use Rattle.xs_params.specs.Stream.{stream_bytes};
-ghost use Rattle.xs_capture.specs.Capture.{IsShort, frame};
 ghost use Rattle.xs_capture.specs.Pictures.{most_pictures};
 ghost use Rattle.xs_pack.specs.Datagrams.{IsPackable};
-ghost use Rattle.xs_cli.specs.Encoded.{encode_turn, written_as};
+ghost use Rattle.xs_cli.specs.Encoded.{HasRoom, encode_turn, enveloped, file_front, packets_sent, timestamp_of, written_as, written_in};
 ghost use Rattle.xs_cli.specs.Places.{IsStreamAt, before_of};
-ghost use Rattle.xs_cli.specs.Steps.{IsDoneQuietly, IsOwnNote};
+ghost use Rattle.xs_cli.specs.Steps.{AreDoneQuietly, IsDoneQuietly, IsOwnNote};
 
 use crate::input::{DONE, MOST_PICTURES, read};
 use std::alloc::Global;
 use xs_capture::write_frame;
 use xs_endings::{Stop, give};
 use xs_faults::SliceRefusal;
-use xs_io::{Octets, Sink, Source};
+use xs_io::{Memory, Octets, Sink, Source};
 use xs_notes::Note;
 use xs_pack::{Datagrams, pack};
 use xs_params::{Checked, Stream};
+use xs_pcap::{file_header, wrap};
 use xs_picture::encode_picture;
 use xs_samples::{SampleFault, raw_size, read_picture};
 use xs_words::Form;
@@ -36,7 +36,14 @@ pub struct Place {
     sequence: u16,
 }
 
-/// Reads raw pictures one after the other, and writes each as it comes. At most one picture is held at a time.
+/// What a packet is written in: a frame of a capture, or a record of a pcap file.
+#[derive(Clone, Copy)]
+pub enum Envelope {
+    Frame,
+    Record { timestamp: u32, port: u16 },
+}
+
+/// Writes what stands before the pictures, and then the pictures.
 pub fn encode<R: Source, W: Sink>(
     alloc: Global,
     settings: &Checked,
@@ -45,6 +52,32 @@ pub fn encode<R: Source, W: Sink>(
     output: &mut W,
 ) -> Result<u8, Stop>
     ensures { IsDoneQuietly (Commands.Encode settings.now form)
+        (change_of (R.left input.old) (R.left input.new) (R.faults input.old) (R.faults input.new))
+        (change_of (W.held output.old) (W.held output.new) (W.faults output.old) (W.faults output.new)) result }
+{
+    begin(form, output)?;
+    pictures(alloc, settings, form, input, output)
+}
+
+/// Gives the header of a pcap file, as one piece.
+fn begin<W: Sink>(form: Form, output: &mut W) -> Result<(), Stop>
+    ensures { IsGiven (change_of (W.held output.old) (W.held output.new) (W.faults output.old) (W.faults output.new)) (file_front form) result }
+{
+    match form {
+        Form::Pcap { .. } => give(output, &file_header()),
+        Form::Rtp | Form::Xs => Ok(()),
+    }
+}
+
+/// Reads raw pictures one after the other, and writes each as it comes. At most one picture is held at a time.
+fn pictures<R: Source, W: Sink>(
+    alloc: Global,
+    settings: &Checked,
+    form: Form,
+    input: &mut R,
+    output: &mut W,
+) -> Result<u8, Stop>
+    ensures { AreDoneQuietly settings.now form
         (change_of (R.left input.old) (R.left input.new) (R.faults input.old) (R.faults input.new))
         (change_of (W.held output.old) (W.held output.new) (W.faults output.old) (W.faults output.new)) result }
 {
@@ -169,7 +202,12 @@ fn write<W: Sink>(
 {
     match form {
         Form::Xs => write_stream(alloc, stream, output),
-        Form::Rtp => write_packets(alloc, settings, place, stream, output),
+        Form::Rtp => write_packets(alloc, settings, Envelope::Frame, place, stream, output),
+        Form::Pcap { port } => {
+            let timestamp = timestamp_of(settings, place.picture);
+            let record = Envelope::Record { timestamp, port };
+            write_packets(alloc, settings, record, place, stream, output)
+        }
     }
 }
 
@@ -190,6 +228,7 @@ fn write_stream<W: Sink>(alloc: Global, stream: &Stream, output: &mut W) -> Resu
 fn write_packets<W: Sink>(
     alloc: Global,
     settings: &Checked,
+    envelope: Envelope,
     place: Place,
     stream: &Stream,
     output: &mut W,
@@ -197,34 +236,64 @@ fn write_packets<W: Sink>(
     requires few { place.picture < most_pictures }
     requires packable { IsPackable settings.now stream.now }
     requires range { AreInRange settings.now }
-    ensures taken { IsTaken (change_of (W.held output.old) (W.held output.new) (W.faults output.old) (W.faults output.new)) (written_as settings.now Forms.Rtp (before_of place) stream.now) result }
+    ensures taken { IsTaken (change_of (W.held output.old) (W.held output.new) (W.faults output.old) (W.faults output.new)) (written_in settings.now envelope (packets_sent settings.now (before_of place) stream.now)) result }
     ensures own { IfErr result IsOwnNote }
     ensures later { IsLater (change_of (W.held output.old) (W.held output.new) (W.faults output.old) (W.faults output.new)) }
 {
     let packets = pack(alloc, stream, settings, place.picture, place.sequence)?;
-    match give_packets(alloc, &packets, output) {
+    match give_packets(alloc, &packets, envelope, output) {
         Ok(()) => Ok(packets.len()),
         Err(why) => Err(why),
     }
 }
 
 /// Gives packets one after the other.
-fn give_packets<W: Sink>(alloc: Global, packets: &Datagrams, output: &mut W) -> Result<(), Stop>
-    requires short { All IsShort packets.now }
-    ensures { IsGiven (change_of (W.held output.old) (W.held output.new) (W.faults output.old) (W.faults output.new)) (flat_map frame packets.now) result }
+fn give_packets<W: Sink>(
+    alloc: Global,
+    packets: &Datagrams,
+    envelope: Envelope,
+    output: &mut W,
+) -> Result<(), Stop>
+    requires short { All HasRoom packets.now }
+    ensures { IsGiven (change_of (W.held output.old) (W.held output.new) (W.faults output.old) (W.faults output.new)) (flat_map (enveloped envelope) packets.now) result }
 {
     'giving: for number in 0..packets.len() {
-        give_packet(alloc, packets.get(number), output)?;
+        give_packet(alloc, packets.get(number), envelope, output)?;
     }
     Ok(())
 }
 
-/// Gives a packet after its length, as one piece.
-fn give_packet<W: Sink>(alloc: Global, packet: &[u8], output: &mut W) -> Result<(), Stop>
-    requires short { IsShort packet.now }
-    ensures { IsGiven (change_of (W.held output.old) (W.held output.new) (W.faults output.old) (W.faults output.new)) (frame packet.now) result }
+/// Gives a packet in its envelope, as one piece.
+fn give_packet<W: Sink>(
+    alloc: Global,
+    packet: &[u8],
+    envelope: Envelope,
+    output: &mut W,
+) -> Result<(), Stop>
+    requires short { HasRoom packet.now }
+    ensures { IsGiven (change_of (W.held output.old) (W.held output.new) (W.faults output.old) (W.faults output.new)) (enveloped envelope packet.now) result }
 {
     let mut bytes = Octets::new(alloc);
-    write_frame(alloc, &mut bytes, packet)?;
+    envelop(alloc, &mut bytes, packet, envelope)?;
     give(output, bytes.as_slice())
+}
+
+/// Appends a packet in its envelope. Where it is refused, the list is as before.
+fn envelop(alloc: Global, out: &mut Octets, packet: &[u8], envelope: Envelope) -> Result<(), Memory>
+    requires { HasRoom packet.now }
+    ensures { out.new ≡ (if is_ok result then out.old ++ enveloped envelope packet.now else out.old) }
+{
+    match envelope {
+        Envelope::Frame => write_frame(alloc, out, packet),
+        Envelope::Record { timestamp, port } => wrap(alloc, out, packet, timestamp, port),
+    }
+}
+
+/// The timestamp of a picture.
+fn timestamp_of(settings: &Checked, picture: u32) -> u32
+    requires { picture < most_pictures }
+    ensures { result ≡ timestamp_of settings.now picture }
+{
+    let settings = settings.settings();
+    settings.first_timestamp + picture * settings.step
 }

@@ -12,7 +12,7 @@ mod start;
 mod top;
 mod trial;
 
-pub use captures::{captures_answered, one_captured, sent_is_written};
+pub use captures::{captures_answered, file_is_written, one_captured, one_file, sent_is_written};
 pub use start::program;
 pub use top::run;
 pub use trial::{one_trial, trials_answered};

@@ -1,5 +1,5 @@
 // The pictures of a capture are received: 'Command words' and 'RTP packets and captures'.
-ghost use Rattle.std.specs.Prelude.{◌≡◌, ◌<◌, ◌≤◌, ◌^◌, ℕ, Ok, OnOk, IfErr, IfOk, length, map, if◌then◌else◌, nat_eq};
+ghost use Rattle.std.specs.Prelude.{◌≡◌, ◌+◌, ◌<◌, ◌≤◌, ◌^◌, ℕ, Ok, OnOk, IfErr, IfOk, length, map, if◌then◌else◌, nat_eq};
 ghost use Rattle.xs_params.specs.Picture.{raw_bytes};
 ghost use Rattle.xs_capture.specs.Pictures.{offers_in, without_offers};
 ghost use Rattle.xs_notes.specs.Lines.{NamesFault, note_line, note_lines};
@@ -7,17 +7,20 @@ ghost use Rattle.xs_endings.specs.Ends.{IsLater, change_of};
 ghost use Rattle.xs_endings.specs.Said.{note_status};
 ghost use Rattle.xs_endings.specs.Steps.{IsGiven};
 ghost use Rattle.xs_recv.specs.Received.{offered_bytes};
-ghost use Rattle.xs_cli.specs.Captured.{IsReceivedOf, IsSaidOfSorted, damage_note, said_of, stepped_said};
-ghost use Rattle.xs_cli.specs.Receiving.{AreReceived, HasSaid, IsNamed, IsOfBytes, IsSaying, stop_of_sort};
+ghost use Rattle.xs_cli.specs.Captured.{IsReceivedOf, IsSaidOfSorted, damage_note, said_of, stepped_said, with_stepped};
+ghost use Rattle.xs_cli.specs.Receiving.{AreReceived, AreUnwrapped, HasSaid, IsNamed, IsOfBytes, IsSaying, stop_of_file, stop_of_sort};
+ghost use Rattle.xs_cli.specs.Decoded.{input_limit};
 ghost use Rattle.xs_cli.specs.Steps.{IsCommandStop};
 
 use crate::input::DONE;
 use std::alloc::Global;
+use std::thread::Threads;
 use xs_capture::{SortFault, Sorted, sort_pictures};
 use xs_endings::{Stop, give, note_status, tell};
 use xs_io::{Gate, Numbers, Sink};
 use xs_notes::Note;
 use xs_params::Planes;
+use xs_pcap::{PcapFault, unwrap};
 use xs_recv::{Damage, Received, receive_picture};
 use xs_samples::write_picture;
 
@@ -32,36 +35,79 @@ pub struct Crew {
 }
 
 impl Crew {
-    /// Receives the pictures of a capture, one after the other by their timestamps, and says what comes of each before the next
-    /// is received: its raw picture, or what is missing of it or damaged. Goes on after those. Answers the first status that is
-    /// not 0, or else 0. The bytes are copied once, and each picture's packets go with it.
-    pub fn receive<W: Sink, N: Sink, G: Gate>(
+    /// Unwraps a pcap file, and receives the pictures of the capture of its datagrams to a port.
+    pub fn receive_file<T: Threads + Sync, W: Sink, N: Sink, G: Gate>(
         &self,
+        threads: &T,
         alloc: Global,
         bytes: &[u8],
+        port: u16,
         output: &mut W,
         notes: &mut N,
         gate: &G,
     ) -> Result<u8, Stop>
-        requires short { length bytes.now < 2 ^ 32 }
+        requires short { length bytes.now ≤ input_limit }
         requires some { 1 ≤ self.now.feeders }
         requires few { self.now.feeders ≤ 8 }
-        ensures received { AreReceived bytes.now (change_of (W.held output.old) (W.held output.new) (W.faults output.old) (W.faults output.new)) (change_of (N.held notes.old) (N.held notes.new) (N.faults notes.old) (N.faults notes.new)) result }
+        ensures received { AreUnwrapped port bytes.now (change_of (W.held output.old) (W.held output.new) (W.faults output.old) (W.faults output.new)) (change_of (N.held notes.old) (N.held notes.new) (N.faults notes.old) (N.faults notes.new)) result }
+        ensures stop { IsCommandStop result }
+        ensures notes_later { IsLater (change_of (N.held notes.old) (N.held notes.new) (N.faults notes.old) (N.faults notes.new)) }
+    {
+        match unwrap(alloc, bytes, port) {
+            Ok(unwrapped) => {
+                let capture = unwrapped.capture.as_slice();
+                self.receive(
+                    threads,
+                    alloc,
+                    capture,
+                    unwrapped.stepped,
+                    output,
+                    notes,
+                    gate,
+                )
+            }
+            Err(fault) => Err(file_refusal(fault)),
+        }
+    }
+
+    /// Receives the pictures of a capture, one after the other by their timestamps, and says what comes of each before the next
+    /// is received: its raw picture, or what is missing of it or damaged. Goes on after those. Answers the first status that is
+    /// not 0, or else 0. The bytes are copied once, and each picture's packets go with it. So many records were stepped over
+    /// before, and count as frames.
+    pub fn receive<T: Threads + Sync, W: Sink, N: Sink, G: Gate>(
+        &self,
+        threads: &T,
+        alloc: Global,
+        bytes: &[u8],
+        records: u32,
+        output: &mut W,
+        notes: &mut N,
+        gate: &G,
+    ) -> Result<u8, Stop>
+        requires short { length bytes.now + records < 2 ^ 32 }
+        requires some { 1 ≤ self.now.feeders }
+        requires few { self.now.feeders ≤ 8 }
+        ensures received { AreReceived records bytes.now (change_of (W.held output.old) (W.held output.new) (W.faults output.old) (W.faults output.new)) (change_of (N.held notes.old) (N.held notes.new) (N.faults notes.old) (N.faults notes.new)) result }
         ensures stop { IsCommandStop result }
         ensures output_later { IsLater (change_of (W.held output.old) (W.held output.new) (W.faults output.old) (W.faults output.new)) }
         ensures notes_later { IsLater (change_of (N.held notes.old) (N.held notes.new) (N.faults notes.old) (N.faults notes.new)) }
     {
         match sort_pictures(alloc, bytes) {
-            Ok(sorted) => self.pictures(alloc, sorted, output, notes, gate),
+            Ok(sorted) => {
+                let stepped = sorted.stepped() + records;
+                self.pictures(threads, alloc, sorted, stepped, output, notes, gate)
+            }
             Err(fault) => Err(refusal(fault)),
         }
     }
 
-    /// Receives pictures that are sorted, and says what comes of each.
-    fn pictures<W: Sink, N: Sink, G: Gate>(
+    /// Receives pictures that are sorted, and says what comes of each, after how many frames and records were stepped over.
+    fn pictures<T: Threads + Sync, W: Sink, N: Sink, G: Gate>(
         &self,
+        threads: &T,
         alloc: Global,
         sorted: Sorted,
+        stepped: u32,
         output: &mut W,
         notes: &mut N,
         gate: &G,
@@ -69,13 +115,13 @@ impl Crew {
         requires sorted { IsOfBytes sorted }
         requires some { 1 ≤ self.now.feeders }
         requires few { self.now.feeders ≤ 8 }
-        ensures { HasSaid (IsSaidOfSorted (Ok sorted)) (change_of (W.held output.old) (W.held output.new) (W.faults output.old) (W.faults output.new)) (change_of (N.held notes.old) (N.held notes.new) (N.faults notes.old) (N.faults notes.new)) result }
+        ensures { HasSaid (IsSaidOfSorted (Ok (with_stepped sorted stepped))) (change_of (W.held output.old) (W.held output.new) (W.faults output.old) (W.faults output.new)) (change_of (N.held notes.old) (N.held notes.new) (N.faults notes.old) (N.faults notes.new)) result }
     {
         let mut sorted = sorted;
-        tell_stepped(alloc, sorted.stepped(), notes)?;
+        tell_stepped(alloc, stepped, notes)?;
         let mut status = DONE;
         'pictures: for number in 0..sorted.count() {
-            let received = self.picture(alloc, &mut sorted, number, gate)?;
+            let received = self.picture(threads, alloc, &mut sorted, number, gate)?;
             let more = say(alloc, sorted.timestamp(number), &received, output, notes)?;
             status = first_status(status, more);
         }
@@ -83,8 +129,9 @@ impl Crew {
     }
 
     /// Receives a picture, whose packets are given up with it.
-    fn picture<G: Gate>(
+    fn picture<T: Threads + Sync, G: Gate>(
         &self,
+        threads: &T,
         alloc: Global,
         sorted: &mut Sorted,
         number: u32,
@@ -100,8 +147,8 @@ impl Crew {
         ensures memory { IfErr result (λ why. why ≡ Stop.Memory) }
     {
         let parts = sorted.parts(number, self.feeders)?;
-        match receive_picture(alloc, parts, self.workers, gate) {
-            Ok(received) => Ok(received),
+        match receive_picture(threads, alloc, parts, self.workers, gate) {
+            Ok(reception) => Ok(reception.received),
             Err(_) => Err(Stop::Memory),
         }
     }
@@ -120,6 +167,20 @@ fn refusal(fault: SortFault) -> Stop
     }
 }
 
+/// How a pcap file is refused.
+fn file_refusal(fault: PcapFault) -> Stop
+    ensures { result ≡ stop_of_file fault }
+{
+    match fault {
+        PcapFault::Cut { place } => Stop::Told(Note::InputCut {
+            place: place as u64,
+        }),
+        PcapFault::Magic { value } => Stop::Told(Note::InputMagic { value }),
+        PcapFault::Link { value } => Stop::Told(Note::InputLink { value }),
+        PcapFault::Memory => Stop::Memory,
+    }
+}
+
 /// The first status that is not 0, or else 0.
 fn first_status(status: u8, more: u8) -> u8
     ensures { result ≡ (if nat_eq status 0 then more else status) }
@@ -127,7 +188,7 @@ fn first_status(status: u8, more: u8) -> u8
     if status == 0 { more } else { status }
 }
 
-/// Tells how many frames were stepped over, if there are any.
+/// Tells how many frames and records were stepped over, if there are any.
 fn tell_stepped<N: Sink>(alloc: Global, count: u32, notes: &mut N) -> Result<(), Stop>
     ensures { IsGiven (change_of (N.held notes.old) (N.held notes.new) (N.faults notes.old) (N.faults notes.new)) (note_lines (stepped_said count).notes) result }
 {

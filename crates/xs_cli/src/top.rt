@@ -21,7 +21,8 @@ use xs_words::{Command, Refusal, command_of};
 /// out of range, 3 for an input of another form, 4 for a slice over its share, 5 for a picture of which packets are
 /// missing, 6 for a damaged one, 7 where the input failed, 8 where the output or the notes failed, 9 where memory was
 /// wanting. The words are those after the program's name. Each codestream, packet, raw picture and note is given as one
-/// piece, as soon as it is there. The call always returns. No thread starts.
+/// piece, as soon as it is there. The call always returns. Only where a picture is
+/// received do threads start: feeders and workers, all of which end before the call does.
 pub fn run<T: Threads + Sync, R: Source, W: Sink, N: Sink, G: Gate>(
     threads: &T,
     alloc: Global,
@@ -36,12 +37,13 @@ pub fn run<T: Threads + Sync, R: Source, W: Sink, N: Sink, G: Gate>(
         (change_of (W.held output.old) (W.held output.new) (W.faults output.old) (W.faults output.new))
         (change_of (N.held notes.old) (N.held notes.new) (N.faults notes.old) (N.faults notes.new))) result }
 {
-    let done = execute(alloc, words, input, output, notes, gate);
+    let done = execute(threads, alloc, words, input, output, notes, gate);
     close(alloc, notes, done)
 }
 
 /// Reads the words and does what they say, but for the last note.
-fn execute<R: Source, W: Sink, N: Sink, G: Gate>(
+fn execute<T: Threads + Sync, R: Source, W: Sink, N: Sink, G: Gate>(
+    threads: &T,
     alloc: Global,
     words: &[String],
     input: &mut R,
@@ -67,9 +69,11 @@ fn execute<R: Source, W: Sink, N: Sink, G: Gate>(
                 form,
                 crew: Crew { workers, feeders },
             };
-            decoding.decode(alloc, input, output, notes, gate)
+            decoding.decode(threads, alloc, input, output, notes, gate)
         }
-        Ok(Command::Trial { settings, seed }) => trial(alloc, &settings, seed, output, gate),
+        Ok(Command::Trial { settings, seed }) => trial(
+            threads, alloc, &settings, seed, output, gate,
+        ),
         Err(refusal) => Err(Stop::Told(note_of(refusal))),
     }
 }

@@ -13,6 +13,7 @@ ghost use Rattle.xs_cli.specs.Trying.{AreOffered, HasTried, IsEncodedOr, IsLines
 
 use crate::input::DONE;
 use std::alloc::Global;
+use std::thread::Threads;
 use xs_capture::{Packet, Parts, offer};
 use xs_endings::{Stop, give};
 use xs_faults::SliceRefusal;
@@ -21,7 +22,7 @@ use xs_notes::Note;
 use xs_pack::{Datagrams, pack};
 use xs_params::{Checked, Planes, Stream};
 use xs_picture::encode_picture;
-use xs_recv::{Received, receive_picture};
+use xs_recv::{Received, Reception, receive_picture};
 use xs_trial::{Comparison, compare, shuffle, trial_picture};
 
 /// What a trial came to.
@@ -60,7 +61,8 @@ fn add_line(alloc: Global, lines: &mut Octets, word: &str, number: u64) -> Resul
 }
 
 /// Makes the picture of a seed, encodes, sends and receives it, and writes what that came to as one piece.
-pub(crate) fn trial<W: Sink, G: Gate>(
+pub(crate) fn trial<T: Threads + Sync, W: Sink, G: Gate>(
+    threads: &T,
     alloc: Global,
     settings: &Checked,
     seed: u32,
@@ -72,7 +74,7 @@ pub(crate) fn trial<W: Sink, G: Gate>(
     ensures { HasTried settings.now seed (change_of (W.held output.old) (W.held output.new) (W.faults output.old) (W.faults output.new)) result }
 {
     known_range(settings);
-    let lines = lines_of(alloc, settings, seed, gate)?;
+    let lines = lines_of(threads, alloc, settings, seed, gate)?;
     match give(output, lines.as_slice()) {
         Ok(()) => Ok(DONE),
         Err(why) => Err(why),
@@ -80,13 +82,19 @@ pub(crate) fn trial<W: Sink, G: Gate>(
 }
 
 /// What is written of the picture of a seed.
-fn lines_of<G: Gate>(alloc: Global, settings: &Checked, seed: u32, gate: &G) -> Result<Octets, Stop>
+fn lines_of<T: Threads + Sync, G: Gate>(
+    threads: &T,
+    alloc: Global,
+    settings: &Checked,
+    seed: u32,
+    gate: &G,
+) -> Result<Octets, Stop>
     requires { IsTrialSized settings.now }
     ensures { IsLinesOf settings.now seed result }
 {
     let (picture, state) = trial_picture(alloc, &settings.settings().shape, seed)?;
     let stream = stream_of(alloc, settings, &picture)?;
-    let outcome = send(alloc, settings, &picture, &stream, state, gate)?;
+    let outcome = send(threads, alloc, settings, &picture, &stream, state, gate)?;
     let lines = outcome.lines(alloc)?;
     Ok(lines)
 }
@@ -110,7 +118,8 @@ fn stream_of(alloc: Global, settings: &Checked, picture: &Planes) -> Result<Stre
 
 /// Sends the packets of a codestream twice, in the order that the generator's state gives, and compares what is received
 /// with its picture.
-fn send<G: Gate>(
+fn send<T: Threads + Sync, G: Gate>(
+    threads: &T,
     alloc: Global,
     settings: &Checked,
     picture: &Planes,
@@ -127,7 +136,13 @@ fn send<G: Gate>(
     known_words(asked.ssrc);
     let packets = pack(alloc, stream, settings, 0, 0)?;
     let parts = deal(alloc, &packets, state, u32::from(asked.feeders))?;
-    let decoded = picture_of(receive_picture(alloc, parts, u32::from(asked.workers), gate)?);
+    let decoded = picture_of(receive_picture(
+        threads,
+        alloc,
+        parts,
+        u32::from(asked.workers),
+        gate,
+    )?);
     let bytes = stream.bytes(alloc)?;
     Ok(Outcome {
         slices: stream.len(),
@@ -152,10 +167,12 @@ fn known_words(number: u32)
 }
 
 /// The picture that was received.
-fn picture_of(received: Received) -> Planes
-    requires { (picture : Picture) × (received ≡ Received.Picture picture) }
-    ensures { received ≡ Received.Picture result }
+fn picture_of(reception: Reception) -> Planes
+    requires { (picture : Picture) × (reception.received ≡ Received.Picture picture) }
+    ensures { reception.received ≡ Received.Picture result }
 {
+    let Reception { received, board } = reception;
+    drop(board);
     match received {
         Received::Picture(planes) => planes,
         Received::Missing { .. } | Received::Damaged(_) => unreachable!(),

@@ -59,6 +59,20 @@ const PAYLOADS: [u32; 7] = [
     0xe03ff800, 0xc0000000, 0xc0000001, 0xc0000002, 0xc0000003, 0xe0000004, 0xe0000800,
 ];
 
+// The grey capture as a pcap file: its header, and of each record the captured length, the total length, the checksum and the length
+// of UDP.
+const FILE: &str = "d4c3b2a1 0200 0400 00000000 00000000 ffff0000 01000000";
+
+const RECORDS: [[&str; 4]; 7] = [
+    ["74000000", "0066", "b683", "0052"],
+    ["7a000000", "006c", "b67d", "0058"],
+    ["7a000000", "006c", "b67d", "0058"],
+    ["7a000000", "006c", "b67d", "0058"],
+    ["7a000000", "006c", "b67d", "0058"],
+    ["4c000000", "003e", "b6ab", "002a"],
+    ["5b000000", "004d", "b69c", "0039"],
+];
+
 /// The number that a text spells, and 0 where it spells none.
 pub fn number(text: &str) -> usize {
     text.trim().parse::<usize>().unwrap_or(0)
@@ -168,13 +182,12 @@ fn push_numbers(bytes: &mut Vec<u8>, numbers: &[u8]) -> Result<(), Memory> {
     bytes.extend_from_slice(numbers).map_err(|_| Memory)
 }
 
-// The headers of a frame: its length, that of RTP, and that of the payload.
-fn push_heads(bytes: &mut Vec<u8>, frame: usize, picture: u32, size: usize) -> Result<(), Memory> {
+// The headers of a packet: that of RTP, and that of the payload.
+fn push_heads(bytes: &mut Vec<u8>, frame: usize, picture: u32) -> Result<(), Memory> {
     let frame = frame % 7;
     let sequence = (picture % 256 * 7 + frame as u32) as u16;
     let time = picture % 65536 * 1500;
     let payload = PAYLOADS[frame].wrapping_add(picture % 32 * 4194304);
-    push_numbers(bytes, &((size % 65000 + 16) as u16).to_be_bytes())?;
     push_numbers(bytes, &[0x80, if frame == 6 { 0xe0 } else { 0x60 }])?;
     push_numbers(bytes, &sequence.to_be_bytes())?;
     push_numbers(bytes, &time.to_be_bytes())?;
@@ -182,15 +195,44 @@ fn push_heads(bytes: &mut Vec<u8>, frame: usize, picture: u32, size: usize) -> R
     push_numbers(bytes, &payload.to_be_bytes())
 }
 
-// A frame of the grey capture, of a picture.
-fn push_frame(bytes: &mut Vec<u8>, deep: &[u8], frame: usize, picture: u32) -> Result<(), Memory> {
+// A packet of the grey capture, of a picture.
+fn push_packet(bytes: &mut Vec<u8>, deep: &[u8], frame: usize, picture: u32) -> Result<(), Memory> {
     let frame = frame % 7;
-    let (from, to) = (PIECES[frame], PIECES[frame + 1]);
-    push_heads(bytes, frame, picture, to.saturating_sub(from))?;
-    for place in from..to {
+    push_heads(bytes, frame, picture)?;
+    for place in PIECES[frame]..PIECES[frame + 1] {
         if place < deep.len() {
             bytes.push(deep[place]).map_err(|_| Memory)?;
         }
+    }
+    Ok(())
+}
+
+// A packet after its length.
+fn push_frame(bytes: &mut Vec<u8>, deep: &[u8], frame: usize, picture: u32) -> Result<(), Memory> {
+    let frame = frame % 7;
+    let size = PIECES[frame + 1].saturating_sub(PIECES[frame]);
+    push_numbers(bytes, &((size % 65000 + 16) as u16).to_be_bytes())?;
+    push_packet(bytes, deep, frame, picture)
+}
+
+// A pcap file of the first picture's packets, whose port is 5004.
+fn push_file(alloc: Global, bytes: &mut Vec<u8>) -> Result<(), Memory> {
+    let mut deep = Vec::new(alloc);
+    push_deep(&mut deep)?;
+    push_hex(bytes, FILE)?;
+    for frame in 0..7 {
+        let [captured, total, checksum, length] = RECORDS[frame % 7];
+        push_hex(bytes, "00000000 00000000")?;
+        push_hex(bytes, captured)?;
+        push_hex(bytes, captured)?;
+        push_hex(bytes, "020000000002 020000000001 0800 4500")?;
+        push_hex(bytes, total)?;
+        push_hex(bytes, "0000 4000 4011")?;
+        push_hex(bytes, checksum)?;
+        push_hex(bytes, "c0000201 c0000202 138c 138c")?;
+        push_hex(bytes, length)?;
+        push_hex(bytes, "0000")?;
+        push_packet(bytes, deep.as_slice(), frame, 0)?;
     }
     Ok(())
 }
@@ -226,6 +268,7 @@ fn push_named(alloc: Global, bytes: &mut Vec<u8>, word: &str, picture: u32) -> R
         "raw" => push_raw(bytes),
         "wide" => push_wide(bytes),
         "deep" => push_deep(bytes),
+        "file" => push_file(alloc, bytes),
         "grey" => push_frames(alloc, bytes, (0, 7), (picture, picture.saturating_add(1))),
         "crowd" => push_frames(alloc, bytes, (0, 1), (0, picture)),
         _ => Ok(()),

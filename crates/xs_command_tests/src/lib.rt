@@ -10,6 +10,8 @@ mod encode;
 #[cfg(test)]
 mod ends;
 #[cfg(test)]
+mod pcap;
+#[cfg(test)]
 mod pictures;
 #[cfg(test)]
 mod rows;
@@ -17,6 +19,8 @@ mod rows;
 mod rtp;
 #[cfg(test)]
 mod sent;
+#[cfg(test)]
+mod threads;
 #[cfg(test)]
 mod trial;
 #[cfg(test)]

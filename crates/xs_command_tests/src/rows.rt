@@ -6,7 +6,7 @@ use crate::bytes::{bytes_of, number};
 use std::alloc::Global;
 use std::thread::Threads;
 use xs_cli::run;
-use xs_io::{MemSink, MemSource, Memory, Numbers, Octets, OpenGate};
+use xs_io::{Gate, MemSink, MemSource, Memory, Numbers, Octets, OpenGate};
 
 /// What a run left.
 #[derive(Drop)]
@@ -46,6 +46,7 @@ pub fn words_of(alloc: Global, text: &str) -> Result<Vec<String>, Memory> {
     Ok(words)
 }
 
+/// Runs words on an input, where no worker is sent away.
 pub fn run_on<T: Threads + Sync>(
     threads: &T,
     alloc: Global,
@@ -53,6 +54,18 @@ pub fn run_on<T: Threads + Sync>(
     input: Octets,
     failing: Failing,
 ) -> Result<Outcome, Memory> {
+    run_by(threads, alloc, words, (input, failing), &OpenGate)
+}
+
+// Runs words on an input of which some calls fail, where the gate says which workers go on.
+fn run_by<T: Threads + Sync, G: Gate>(
+    threads: &T,
+    alloc: Global,
+    words: &str,
+    given: (Octets, Failing),
+    gate: &G,
+) -> Result<Outcome, Memory> {
+    let (input, failing) = given;
     let words = words_of(alloc, words)?;
     let mut input = MemSource::new(input, failing.input);
     let mut output = MemSink::new(alloc, failing.output);
@@ -64,7 +77,7 @@ pub fn run_on<T: Threads + Sync>(
         &mut input,
         &mut output,
         &mut notes,
-        &OpenGate,
+        gate,
     );
     Ok(Outcome {
         status,
@@ -127,16 +140,17 @@ pub fn has_left(
     )
 }
 
-fn runs_as<T: Threads + Sync>(
+fn runs_as<T: Threads + Sync, G: Gate>(
     threads: &T,
     alloc: Global,
     first: &str,
     row: &str,
+    gate: &G,
 ) -> Result<bool, Memory> {
     let mut parts = row.split('|');
     let words = format!(in alloc; "{first} {}", parts.next().unwrap_or("")).map_err(|_| Memory)?;
-    let (input, failing) = given_of(alloc, parts.next().unwrap_or(""))?;
-    let left = run_on(threads, alloc, words.as_str(), input, failing)?;
+    let given = given_of(alloc, parts.next().unwrap_or(""))?;
+    let left = run_by(threads, alloc, words.as_str(), given, gate)?;
     let status = parts.next().unwrap_or("");
     let output = parts.next().unwrap_or("");
     let notes = parts.next().unwrap_or("");
@@ -145,7 +159,18 @@ fn runs_as<T: Threads + Sync>(
 
 /// Whether a run of these words, and further words in the row, goes as the row says.
 pub fn holds<T: Threads + Sync>(threads: &T, alloc: Global, first: &str, row: &str) -> bool {
-    match runs_as(threads, alloc, first, row) {
+    holds_by(threads, alloc, first, row, &OpenGate)
+}
+
+/// The same where the gate says which workers go on.
+pub fn holds_by<T: Threads + Sync, G: Gate>(
+    threads: &T,
+    alloc: Global,
+    first: &str,
+    row: &str,
+    gate: &G,
+) -> bool {
+    match runs_as(threads, alloc, first, row, gate) {
         Ok(held) => held,
         Err(Memory) => false,
     }

@@ -27,6 +27,10 @@ const SETTINGS: &str = "\
 --workers 0 | 128*0 | 2 | | setting workers 0
 --workers 17 | 128*0 | 2 | | setting workers 17
 --workers 260 | 128*0 | 2 | | setting workers 260
+--port 0 | 128*0 | 2 | | setting port 0
+--port 65536 | 128*0 | 2 | | setting port 65536
+--port 0 --workers 17 | 128*0 | 2 | | setting workers 17
+--port 65535 | 128*0 | 0 | black |
 --pt 352 --depth 9 | 128*0 | 2 | | setting depth 9
 --workers 0 --step 0 --time 2147483649 --pt 95 --chunk 63 --colour 1 --slice 0 --bits 19 | 128*0 | 2 | | setting bits 19
 --workers 0 --step 0 --time 2147483649 --pt 95 --chunk 63 --colour 1 --slice 0 | 128*0 | 2 | | setting slice 0
@@ -77,7 +81,10 @@ decode --feeders 9 | | 2 | | setting feeders 9
 decode --feeders 8 --workers 16 | | 0 | |
 decode --workers 0 | | 2 | | setting workers 0
 decode --workers 17 --form xs | | 2 | | setting workers 17
-decode --feeders 9 --workers 260 | | 2 | | setting workers 260";
+decode --feeders 9 --workers 260 | | 2 | | setting workers 260
+decode --form xs --port 70000 | | 2 | | setting port 70000
+decode --port 65536 --feeders 9 | | 2 | | setting feeders 9
+decode --port 65535 | | 0 | |";
 
 #[test]
 fn sizes_out_of_range_are_named(rt: HostRuntime) {
@@ -96,10 +103,10 @@ decode --form rtp | | 0 | |
 decode --form xs --workers 4 | | 0 | |
 decode --form | 128*0 | 1 | | words 2
 decode --form xs --form xs | 128*0 | 1 | | words 3
-decode --form pcap | 128*0 | 1 | | words 2
+decode --form raw | 128*0 | 1 | | words 2
 decode --form xs --seed 4 | 128*0 | 1 | | words 3
 decode --share 400 | 128*0 | 1 | | words 1
-decode --port 5004 | 128*0 | 1 | | words 1
+decode --port x | 128*0 | 1 | | words 2
 decode --workers 00000000004 | 128*0 | 1 | | words 2
 decode --workers 4294967296 | 128*0 | 1 | | words 2
 encode | 128*0 | 1 | | words 1
@@ -112,9 +119,9 @@ encode -- | 128*0 | 1 | | words 1
 encode width 32 | 128*0 | 1 | | words 1
 encode --wid 32 | 128*0 | 1 | | words 1
 encode --mode stream | 128*0 | 1 | | words 1
-encode --port 5004 | 128*0 | 1 | | words 1
+encode --port 5004 | 128*0 | 1 | | words 3
 encode --feeders 2 | 128*0 | 1 | | words 1
-encode --form pcap | 128*0 | 1 | | words 2
+encode --form raw | 128*0 | 1 | | words 2
 encode --form rtp | 128*0 | 1 | | words 3
 encode --format 420 | 128*0 | 1 | | words 2
 encode --format 422 | 128*0 | 1 | | words 3

@@ -12,7 +12,7 @@ use Rattle.xs_pcap.specs.declared.numbers.Order.TheVariants.{Little}
 use Rattle.xs_pcap.specs.declared.unwrapping.Unwrapped.{Unwrapped}
 use Rattle.xs_pcap.specs.Datagram.{IsDatagram, payload_of}
 use Rattle.xs_pcap.specs.File.{ethernet, IsPcap, IsRecord, microseconds}
-use Rattle.xs_pcap.specs.Unwrapped.{IsUnwrapped, payloads_of, stepped_of}
+use Rattle.xs_pcap.specs.Unwrapped.{IsUnwrapped, payloads_of, stepped_records}
 use Rattle.xs_pcap.specs.Wrapped.{frame_of, header_bytes, ipv4_checksum, ipv4_head, microseconds_of, seconds_of, udp_head, wrapped, wrapped_entry, wrapped_file}
 use Rattle.xs_pcap.specs.Laws.{IsEntry, WrappedIsUnwrapped}
 use Rattle.xs_pcap.proofs.Datagrams.{datagram_is_spelled}
@@ -114,12 +114,12 @@ payloads_are port asked [] small to fit = refl
 payloads_are port asked (e ∷ es) small to fit =
     ap (λ (o : Option (List ℕ)). cons_option o (payloads_of asked (frames_of port es))) (payload_is port asked e.1 small to fit.0.1) ∙ ap (λ l. e.1 ∷ l) (payloads_are port asked es small to fit.1)
 
-none_stepped : (port asked : ℕ) (entries : List (ℕ × List ℕ)) → port < 2 ^ 16 → (asked ≡ 0) ⊎ (asked ≡ port) → AllByRecursion IsEntry entries → stepped_of asked (frames_of port entries) ≡ 0
+none_stepped : (port asked : ℕ) (entries : List (ℕ × List ℕ)) → port < 2 ^ 16 → (asked ≡ 0) ⊎ (asked ≡ port) → AllByRecursion IsEntry entries → stepped_records asked (frames_of port entries) ≡ 0
 none_stepped port asked [] small to fit = refl
 none_stepped port asked (e ∷ es) small to fit =
     sum_by-append (λ (c : List ℕ). if is_none (payload_of asked c) then 1 else 0) (frame_of port e.1 ∷ []) (frames_of port es)
-    ∙ ap (λ (o : Option (List ℕ)). 0 + (if is_none o then 1 else 0) + stepped_of asked (frames_of port es)) (payload_is port asked e.1 small to fit.0.1)
-    ∙ none_more (stepped_of asked (frames_of port es)) ∙ none_stepped port asked es small to fit.1
+    ∙ ap (λ (o : Option (List ℕ)). 0 + (if is_none o then 1 else 0) + stepped_records asked (frames_of port es)) (payload_is port asked e.1 small to fit.0.1)
+    ∙ none_more (stepped_records asked (frames_of port es)) ∙ none_stepped port asked es small to fit.1
   where
     none_more : (n : ℕ) → 0 + n ≡ n
     none_more n = omega arith
@@ -129,7 +129,7 @@ unwrapped_is : (port asked : ℕ) (entries : List (ℕ × List ℕ)) → port < 
 unwrapped_is port asked entries small to fit u is =
     let same : is.records ≡ frames_of port entries = records_are_one (wrapped_file port entries) is.records (frames_of port entries) is.file (file_of port entries fit) in (
       subst (λ l. IsCapture l u.capture) (ap (payloads_of asked) same ∙ payloads_are port asked entries small to fit) is.capture,
-      is.stepped ∙ ap (stepped_of asked) same ∙ none_stepped port asked entries small to fit,
+      is.stepped ∙ ap (stepped_records asked) same ∙ none_stepped port asked entries small to fit,
     )
 
 is_unwrapped : (port asked : ℕ) (entries : List (ℕ × List ℕ)) → port < 2 ^ 16 → (asked ≡ 0) ⊎ (asked ≡ port) → AllByRecursion IsEntry entries → (u : Unwrapped)

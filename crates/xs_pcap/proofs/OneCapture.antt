@@ -10,7 +10,7 @@ use Rattle.xs_pcap.specs.declared.unwrapping.Unwrapped.{Unwrapped}
 use Rattle.xs_pcap.specs.Numbers.{word_bytes}
 use Rattle.xs_pcap.specs.Datagram.{payload_of}
 use Rattle.xs_pcap.specs.File.{IsPcap, IsRecord}
-use Rattle.xs_pcap.specs.Unwrapped.{IsUnwrapped, payloads_of, stepped_of}
+use Rattle.xs_pcap.specs.Unwrapped.{IsUnwrapped, payloads_of, stepped_records}
 use Rattle.xs_pcap.specs.Laws.{UnwrappedIsOne}
 use Rattle.xs_pcap.proofs.Datagrams.{payload_short}
 use Rattle.xs_pcap.proofs.Files.{no_fault_in_file, records_are_one}
@@ -42,7 +42,7 @@ all_short port (r ∷ rs) all = one_short (payload_of port r) (payloads_of port 
 unwrapped_of : (bytes : List ℕ) (port : ℕ) (records : List (List ℕ)) → AreBytes bytes → IsPcap records bytes → (u : Unwrapped) × IsUnwrapped bytes port u
 unwrapped_of bytes port records all file =
     let rest : AreBytes file.rest = last_are file.header file.rest (subst AreBytes file.joined all) in (
-      record { capture = flat_map frame (payloads_of port records); stepped = stepped_of port records },
+      record { capture = flat_map frame (payloads_of port records); stepped = stepped_records port records },
       record {
         records = records;
         file = file;
@@ -55,7 +55,7 @@ same_unwrapped : (bytes : List ℕ) (port : ℕ) (u v : Unwrapped) → IsUnwrapp
 same_unwrapped bytes port u v p q =
     let same : p.records ≡ q.records = records_are_one bytes p.records q.records p.file q.file in (
       p.capture.joined ∙ ap (λ l. flat_map frame (payloads_of port l)) same ∙ sym q.capture.joined,
-      p.stepped ∙ ap (stepped_of port) same ∙ sym q.stepped,
+      p.stepped ∙ ap (stepped_records port) same ∙ sym q.stepped,
     )
 
 pub unwrapped_is_one : UnwrappedIsOne

@@ -17,7 +17,7 @@ use Rattle.xs_pcap.specs.declared.fault.PcapFault.TheVariants.{Cut}
 use Rattle.xs_pcap.specs.Numbers.{word_of, ordered_word_at}
 use Rattle.xs_pcap.specs.Datagram.{payload_of}
 use Rattle.xs_pcap.specs.File.{has_record, header_read, IsPcap, IsRecord, order_of, record_read, record_size}
-use Rattle.xs_pcap.specs.Unwrapped.{frame_if, IsPcapFault, payloads_of, step_if, stepped_of}
+use Rattle.xs_pcap.specs.Unwrapped.{frame_if, IsPcapFault, payloads_of, step_if, stepped_records}
 use Rattle.xs_pcap.proofs.Parts.{drop_are, peel, take_are}
 use Rattle.xs_pcap.proofs.Datagrams.{payload_short}
 use Rattle.xs_pcap.proofs.Records.{captured_in, record_holds, record_is, record_long}
@@ -58,7 +58,7 @@ pub record HasWalked (bytes : List ℕ) (port place : ℕ) (capture : List ℕ) 
   pub split : drop 24 bytes ≡ front ++ drop place bytes
   pub spelled : SpellsEach (IsRecord (order_of bytes)) records front
   pub capture_is : IsCapture (payloads_of port records) capture
-  pub stepped_is : stepped ≡ stepped_of port records
+  pub stepped_is : stepped ≡ stepped_records port records
 
 pub none_walked : (bytes : List ℕ) (port : ℕ) → HasWalked bytes port 24 [] 0
 none_walked bytes port = record { records = []; front = []; split = refl; spelled = refl; capture_is = record { joined = refl; short = tt }; stepped_is = refl }
@@ -119,8 +119,8 @@ walked_more bytes port place read capture stepped all answer before now others t
       stepped_is = counted (sum_by-append (λ (c : List ℕ). if is_none (payload_of port c) then 1 else 0) before.records (slice_range bytes read.0 read.1 ∷ [])) before.stepped_is;
     }
   where
-    counted : stepped_of port (before.records ++ slice_range bytes read.0 read.1 ∷ []) ≡ stepped_of port before.records + stepped_of port (slice_range bytes read.0 read.1 ∷ [])
-        → stepped ≡ stepped_of port before.records → others ≡ stepped_of port (before.records ++ slice_range bytes read.0 read.1 ∷ [])
+    counted : stepped_records port (before.records ++ slice_range bytes read.0 read.1 ∷ []) ≡ stepped_records port before.records + stepped_records port (slice_range bytes read.0 read.1 ∷ [])
+        → stepped ≡ stepped_records port before.records → others ≡ stepped_records port (before.records ++ slice_range bytes read.0 read.1 ∷ [])
     counted sum was = omega (arith, sum, was, these)
 
 -- a record that is cut

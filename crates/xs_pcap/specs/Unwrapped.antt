@@ -12,8 +12,8 @@ abbrev pub payloads_of : ℕ → List (List ℕ) → List (List ℕ)
 payloads_of port records = filter_map (payload_of port) records
 
 -- how many records are none, and are stepped over
-abbrev pub stepped_of : ℕ → List (List ℕ) → ℕ
-stepped_of port records = count_by (λ captured. is_none (payload_of port captured)) records
+abbrev pub stepped_records : ℕ → List (List ℕ) → ℕ
+stepped_records port records = count_by (λ captured. is_none (payload_of port captured)) records
 
 -- what a record adds to a capture, and to the number of those that are stepped over, by the payload that it has or has not
 abbrev pub frame_if : Option (List ℕ) → List ℕ
@@ -28,7 +28,7 @@ pub record IsUnwrapped (bytes : List ℕ) (port : ℕ) (unwrapped : Unwrapped) :
   pub records : List (List ℕ)
   pub file : IsPcap records bytes
   pub capture : IsCapture (payloads_of port records) unwrapped.capture
-  pub stepped : unwrapped.stepped ≡ stepped_of port records
+  pub stepped : unwrapped.stepped ≡ stepped_records port records
 
 -- a fault of the bytes; want of memory is free
 abbrev pub IsPcapFault : List ℕ → PcapFault → Type 0

@@ -118,17 +118,17 @@ names_apart words table t j k above below same =
     let once = second.1 in
     cc
 
--- each table has at most twenty rows
-few_rows : (word : List ℕ) (table : List Row) → table_of word ≡ Some table → length table ≤ 20
+-- each table has at most twenty-one rows
+few_rows : (word : List ℕ) (table : List Row) → table_of word ≡ Some table → length table ≤ 21
 few_rows word table = by_name (bytes_eq word (codes "encode")) (bytes_eq word (codes "decode")) (bytes_eq word (codes "trial"))
   where
-    by_name : (encode decode trial : Bool) → cond encode (Some encode_rows) (cond decode (Some decode_rows) (cond trial (Some trial_rows) None)) ≡ Some table → length table ≤ 20
+    by_name : (encode decode trial : Bool) → cond encode (Some encode_rows) (cond decode (Some decode_rows) (cond trial (Some trial_rows) None)) ≡ Some table → length table ≤ 21
     by_name true decode trial e = let same : encode_rows ≡ table = cc in omega (arith, ap length same)
     by_name false true trial e = let same : decode_rows ≡ table = cc in omega (arith, ap length same)
     by_name false false true e = let same : trial_rows ≡ table = cc in omega (arith, ap length same)
     by_name false false false e = absurd (cc)
 
-near-where : (words : List (List ℕ)) (table : List Row) → table_of (word_in words 0) ≡ Some table → (found : Option ℕ) → bad_place words ≡ found → IfSome found (λ place. place ≤ 41)
+near-where : (words : List (List ℕ)) (table : List Row) → table_of (word_in words 0) ≡ Some table → (found : Option ℕ) → bad_place words ≡ found → IfSome found (λ place. place ≤ 43)
 near-where words table t None e = tt
 near-where words table t (Some place) e =
     let end : stop (length words) (bad_place words) ≡ place = ap (stop (length words)) e in
@@ -138,6 +138,6 @@ near-where words table t (Some place) e =
     (λ j k above below. names_apart words table t j k above (omega arith)) in
     omega arith
 
--- the first bad word of a command is one of the first forty-two
-pub near : (words : List (List ℕ)) (table : List Row) → table_of (word_in words 0) ≡ Some table → IfSome (bad_place words) (λ place. place ≤ 41)
+-- the first bad word of a command is one of the first forty-four
+pub near : (words : List (List ℕ)) (table : List Row) → table_of (word_in words 0) ≡ Some table → IfSome (bad_place words) (λ place. place ≤ 43)
 near words table t = near-where words table t (bad_place words) refl

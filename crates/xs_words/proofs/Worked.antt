@@ -3,7 +3,7 @@ use Rattle.std.proofs.Common.{◌≡◌, refl, List, ℕ, [], ◌∷◌}
 use Rattle.std.specs.Prelude.{codes, None, Some}
 use Rattle.xs_params.specs.declared.settings.Field.TheVariants as setting
 use Rattle.xs_words.specs.declared.command.Refusal.TheVariants as refusal
-use Rattle.xs_words.specs.declared.command.Form.TheVariants.{Rtp, Xs}
+use Rattle.xs_words.specs.declared.command.Form.TheVariants.{Rtp, Xs, Pcap}
 use Rattle.xs_words.specs.declared.command.Command.TheVariants.{Decode}
 use Rattle.xs_words.specs.Refusal.{refusal_of}
 use Rattle.xs_words.specs.Words.{bad_place}
@@ -30,7 +30,7 @@ no_option_of_encode = refl
 with_equals : bad_place (codes "decode" ∷ codes "--form=xs" ∷ []) ≡ Some 1
 with_equals = refl
 
-no_such_choice : bad_place (codes "decode" ∷ codes "--form" ∷ codes "pcap" ∷ []) ≡ Some 2
+no_such_choice : bad_place (codes "decode" ∷ codes "--form" ∷ codes "raw" ∷ []) ≡ Some 2
 no_such_choice = refl
 
 eleven_digits : bad_place (codes "decode" ∷ codes "--workers" ∷ codes "00000000004" ∷ []) ≡ Some 2
@@ -82,3 +82,16 @@ decode_xs = refl
 
 decode_plain : command_of (codes "decode" ∷ []) ≡ Decode Rtp 4 2
 decode_plain = refl
+
+decode_pcap : command_of (codes "decode" ∷ codes "--form" ∷ codes "pcap" ∷ []) ≡ Decode (Pcap 0) 4 2
+decode_pcap = refl
+
+-- whatever the form is
+port_70000 : refusal_of (codes "decode" ∷ codes "--port" ∷ codes "70000" ∷ codes "--form" ∷ codes "xs" ∷ []) ≡ Some (refusal.Setting (record { field = setting.Port; value = 70000 }))
+port_70000 = refl
+
+port_0 : refusal_of (wide (codes "64") (codes "--port" ∷ codes "0" ∷ [])) ≡ Some (refusal.Setting (record { field = setting.Port; value = 0 }))
+port_0 = refl
+
+feeders_before_port : refusal_of (codes "decode" ∷ codes "--port" ∷ codes "65536" ∷ codes "--feeders" ∷ codes "9" ∷ []) ≡ Some (refusal.Setting (record { field = setting.Feeders; value = 9 }))
+feeders_before_port = refl

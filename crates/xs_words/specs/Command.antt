@@ -9,7 +9,7 @@ use Rattle.xs_params.specs.declared.settings.Mode.TheVariants.{Slice}
 use Rattle.xs_params.specs.declared.settings.Settings.{Settings}
 use Rattle.xs_words.specs.Words.{decimal_value, value_of, word_in}
 use Rattle.xs_words.specs.declared.command.Form.{Form}
-use Rattle.xs_words.specs.declared.command.Form.TheVariants.{Rtp, Xs}
+use Rattle.xs_words.specs.declared.command.Form.TheVariants.{Rtp, Xs, Pcap}
 use Rattle.xs_words.specs.declared.command.Command.{Command}
 use Rattle.xs_words.specs.declared.command.Command.TheVariants.{Encode, Decode, Trial}
 
@@ -28,9 +28,12 @@ abbrev pub quant_of : List (List ℕ) → Quant
 quant_of words = if is_given words (codes "--quant") (codes "deadzone") then DeadZone else Uniform
 
 abbrev pub form_of : List (List ℕ) → Form
-form_of words = if is_given words (codes "--form") (codes "xs") then Xs else Rtp
+form_of words =
+    if is_given words (codes "--form") (codes "xs") then Xs
+    else if is_given words (codes "--form") (codes "pcap") then Pcap (given_number words (codes "--port"))
+    else Rtp
 
--- the settings; weights, the unit of packets, boxes, feeders and the port have no words
+-- the settings; weights, the unit of packets, boxes and feeders have no words
 abbrev pub settings_of : List (List ℕ) → Settings
 settings_of words = record {
   shape = record {
@@ -58,7 +61,7 @@ settings_of words = record {
   boxes = [];
   workers = given_number words (codes "--workers");
   feeders = 2;
-  port = 5004;
+  port = given_number words (codes "--port");
 }
 
 -- the settings of a trial: those that have no words of it are the defaults of encoding

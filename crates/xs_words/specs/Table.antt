@@ -21,7 +21,7 @@ number name default = record { name = name; kind = Number; default = Some defaul
 abbrev pub choice : List ℕ → List (List ℕ) → List ℕ → Row
 choice name words default = record { name = name; kind = Choice words; default = Some default }
 
--- a slice is so many precincts; `pt` is the RTP payload type, and `time` its first timestamp
+-- a slice is so many precincts; `pt` is the RTP payload type, and `time` its first timestamp; packets of a pcap file go to a port
 abbrev pub encode_rows : List Row
 encode_rows =
     required (codes "--width")
@@ -42,8 +42,9 @@ encode_rows =
     ∷ number (codes "--ssrc") (codes "1")
     ∷ number (codes "--time") (codes "0")
     ∷ number (codes "--step") (codes "1500")
-    ∷ choice (codes "--form") (codes "rtp" ∷ codes "xs" ∷ []) (codes "rtp")
+    ∷ choice (codes "--form") (codes "rtp" ∷ codes "xs" ∷ codes "pcap" ∷ []) (codes "rtp")
     ∷ number (codes "--workers") (codes "4")
+    ∷ number (codes "--port") (codes "5004")
     ∷ []
 
 -- all else is as the defaults of encoding
@@ -57,9 +58,11 @@ trial_rows =
     ∷ number (codes "--feeders") (codes "2")
     ∷ []
 
+-- port 0 is any
 abbrev pub decode_rows : List Row
 decode_rows =
-    choice (codes "--form") (codes "rtp" ∷ codes "xs" ∷ []) (codes "rtp")
+    choice (codes "--form") (codes "rtp" ∷ codes "xs" ∷ codes "pcap" ∷ []) (codes "rtp")
     ∷ number (codes "--workers") (codes "4")
     ∷ number (codes "--feeders") (codes "2")
+    ∷ number (codes "--port") (codes "0")
     ∷ []

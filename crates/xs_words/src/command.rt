@@ -1,12 +1,12 @@
 // What a command asks for.
-ghost use Rattle.std.specs.Prelude.{◌≡◌, None, Some, IfOk, codes, map, true};
+ghost use Rattle.std.specs.Prelude.{◌≡◌, ◌<◌, ◌^◌, None, Some, IfOk, codes, map, true};
 ghost use Rattle.std.specs.Result.{result_err};
 ghost use Rattle.std.specs.String.{string_bytes};
 ghost use Rattle.xs_lists.specs.First.{first_of};
-ghost use Rattle.xs_params.specs.Check.{setting_refusals, thread_refusals};
+ghost use Rattle.xs_params.specs.Check.{setting_refusals};
 ghost use Rattle.xs_words.specs.Command.{IsSound, command_of, form_of, format_of, given_number, is_given, quant_of, settings_of, trial_settings_of};
 ghost use Rattle.xs_words.specs.Narrow.{as_asked, fitting, narrowed};
-ghost use Rattle.xs_words.specs.Refusal.{refusal_of, refused_settings};
+ghost use Rattle.xs_words.specs.Refusal.{decoding_refusals, refusal_of, refused_settings};
 ghost use Rattle.xs_words.specs.Table.{decode_rows, encode_rows, trial_rows};
 ghost use Rattle.xs_words.specs.Words.{bad_place, is_number, is_numeric, table_of, value_of, word_in};
 ghost use Rattle.xs_words.specs.declared.command.Command.TheVariants.{Encode, Decode, Trial};
@@ -16,7 +16,7 @@ use crate::option::number;
 use std::alloc::Global;
 use thiserror::Error;
 use xs_io::Octets;
-use xs_layout::limits::{MOST_FEEDERS, MOST_WORKERS};
+use xs_layout::limits::{MOST_FEEDERS, MOST_PORT, MOST_WORKERS};
 use xs_params::{Checked, Field, Format, Mode, Quant, Setting, Settings, Shape};
 
 /// How codestreams travel.
@@ -26,6 +26,8 @@ pub enum Form {
     Rtp,
     /// One after the other.
     Xs,
+    /// In a pcap file of such packets, which go to this port. Where they are read 0 is any.
+    Pcap { port: u16 },
 }
 
 /// What words ask for.
@@ -80,7 +82,7 @@ pub fn command_of(alloc: Global, words: &[String]) -> Result<Command, Refusal>
 /// What words that are a command ask for.
 fn asked(alloc: Global, words: &[String]) -> Result<Command, Setting>
     requires whole { bad_place (map string_bytes words.now) ≡ None }
-    ensures refused { result_err result ≡ first_of (refused_settings (command_of (map string_bytes words.now))) }
+    ensures refused { result_err result ≡ first_of (refused_settings (map string_bytes words.now) (command_of (map string_bytes words.now))) }
     ensures asked { IfOk result (λ command. command ≡ command_of (map string_bytes words.now)) }
     ensures sound { IfOk result IsSound }
 {
@@ -101,7 +103,7 @@ fn encoding(alloc: Global, words: &[String]) -> Result<Command, Setting>
     match settings_of(alloc, words).check() {
         Ok(settings) => Ok(Command::Encode {
             settings,
-            form: form_of(words),
+            form: form_of(words, encode_number(words, "--port")),
         }),
         Err(setting) => Err(as_asked(words, setting)),
     }
@@ -197,23 +199,25 @@ fn trial_number(words: &[String], name: &str) -> u32
 fn decoding(words: &[String]) -> Result<Command, Setting>
     requires decode { table_of (word_in (map string_bytes words.now) 0) ≡ Some decode_rows }
     requires whole { bad_place (map string_bytes words.now) ≡ None }
-    ensures refused { result_err result ≡ first_of (thread_refusals (given_number (map string_bytes words.now) (codes "--workers")) (given_number (map string_bytes words.now) (codes "--feeders"))) }
+    ensures refused { result_err result ≡ first_of (decoding_refusals (given_number (map string_bytes words.now) (codes "--workers")) (given_number (map string_bytes words.now) (codes "--feeders")) (given_number (map string_bytes words.now) (codes "--port"))) }
     ensures asked { IfOk result (λ command. command ≡ Decode (form_of (map string_bytes words.now)) (given_number (map string_bytes words.now) (codes "--workers")) (given_number (map string_bytes words.now) (codes "--feeders"))) }
 {
     let workers = number_of(words, "--workers");
     let feeders = number_of(words, "--feeders");
-    match thread_refusal(workers, feeders) {
+    let port = number_of(words, "--port");
+    match decoding_refusal(workers, feeders, port) {
         Some(setting) => Err(setting),
         None => Ok(Command::Decode {
-            form: form_of(words),
+            form: form_of(words, port),
             workers,
             feeders,
         }),
     }
 }
 
-fn thread_refusal(workers: u32, feeders: u32) -> Option<Setting>
-    ensures { result ≡ first_of (thread_refusals workers feeders) }
+fn decoding_refusal(workers: u32, feeders: u32, port: u32) -> Option<Setting>
+    ensures first { result ≡ first_of (decoding_refusals workers feeders port) }
+    ensures small { result ≡ None → port < 2 ^ 16 }
 {
     if !(1..=u32::from(MOST_WORKERS)).contains(&workers) {
         return Some(Setting {
@@ -225,6 +229,12 @@ fn thread_refusal(workers: u32, feeders: u32) -> Option<Setting>
         return Some(Setting {
             field: Field::Feeders,
             value: u64::from(feeders),
+        });
+    }
+    if port > MOST_PORT {
+        return Some(Setting {
+            field: Field::Port,
+            value: u64::from(port),
         });
     }
     None
@@ -258,7 +268,7 @@ fn settings_of(alloc: Global, words: &[String]) -> Settings
         boxes: Octets::new(alloc),
         workers: byte_of(words, "--workers"),
         feeders: 2,
-        port: 5004,
+        port: encode_number(words, "--port"),
     }
 }
 
@@ -294,11 +304,15 @@ fn quant_of(words: &[String]) -> Quant
     }
 }
 
-fn form_of(words: &[String]) -> Form
+/// The form, with the port that is given, or is so by default.
+fn form_of(words: &[String], port: u32) -> Form
+    requires given { port ≡ given_number (map string_bytes words.now) (codes "--port") }
+    requires small { port < 2 ^ 16 }
     ensures { result ≡ form_of (map string_bytes words.now) }
 {
     match value_of(words, "--form") {
         "xs" => Form::Xs,
+        "pcap" => Form::Pcap { port: port as u16 },
         _ => Form::Rtp,
     }
 }

@@ -10,7 +10,7 @@ use crate::option::{CommandOption, option_named, table_of};
 /// The place of the first word that is not as the command asks, or the number of words where they end too early.
 pub fn bad_place(words: &[String]) -> Option<usize>
     ensures place { result ≡ bad_place (map string_bytes words.now) }
-    ensures near { IfSome result (λ place. place ≤ 41) }
+    ensures near { IfSome result (λ place. place ≤ 43) }
 {
     match table_of(word_in(words, 0)) {
         Some(options) => bad_place_after(options, words),

@@ -17,7 +17,7 @@ pub enum CommandOption {
 
 use CommandOption::{Choice, Number, Required};
 
-static ENCODE: [CommandOption; 20] = [
+static ENCODE: [CommandOption; 21] = [
     Required("--width"),
     Required("--height"),
     Required("--share"),
@@ -36,8 +36,9 @@ static ENCODE: [CommandOption; 20] = [
     Number("--ssrc", "1"),
     Number("--time", "0"),
     Number("--step", "1500"),
-    Choice("--form", &["rtp", "xs"], "rtp"),
+    Choice("--form", &["rtp", "xs", "pcap"], "rtp"),
     Number("--workers", "4"),
+    Number("--port", "5004"),
 ];
 
 static TRIAL: [CommandOption; 6] = [
@@ -49,10 +50,11 @@ static TRIAL: [CommandOption; 6] = [
     Number("--feeders", "2"),
 ];
 
-static DECODE: [CommandOption; 3] = [
-    Choice("--form", &["rtp", "xs"], "rtp"),
+static DECODE: [CommandOption; 4] = [
+    Choice("--form", &["rtp", "xs", "pcap"], "rtp"),
     Number("--workers", "4"),
     Number("--feeders", "2"),
+    Number("--port", "0"),
 ];
 
 /// The options of the command that a word begins.

@@ -1,6 +1,7 @@
 use Rattle.std.proofs.Common.{◌≡◌, ◌<◌, ◌^◌, length, sym, ap, subst, ◌∙◌, arith}
 use Rattle.xs_params.specs.declared.settings.Settings.{Settings}
 use Rattle.xs_params.specs.Picture.{Picture}
+use Rattle.xs_stored.specs.Stored.{held_in}
 use Rattle.xs_trial.specs.Comparison.{comparison_of}
 use Rattle.xs_cli.specs.Trying.{AreOffered}
 use Rattle.xs_cli.proofs.TrialBrought.{datagrams_offered, dealt, few_datagrams, one_received, same_outcome}
@@ -53,8 +54,9 @@ picture_of-decoded-requires g c =
     let most = range.feeders.1 in
     let are = dealt s c.args.picture.now c.args.stream.now range c.requires.encoded c.requires.sized.boxes ssrc c.requires.sized.chunk c.in_ok-packets.packets c.in_ok-parts.parts c.from.result c.args.state
     c.in_ok-packets.ensures (omega (arith, feeders, some)) (omega (arith, feeders, most)) c.in_ok-parts.ensures in
-    let came = c.in_ok-receive_picture.ensures.received in
-    let brought = are.brings came.0 c.in_ok-receive_picture.field-0 came.1 came.2 in
+    let came = c.in_ok-receive_picture.ensures in
+    let reception = c.in_ok-receive_picture.field-0 in
+    let brought = are.brings (held_in reception.board.actor.stored) reception.received came.selection came.received in
     (brought.0, brought.1)
 
 pub compare-requires : goal.compare-requires
@@ -67,8 +69,9 @@ compare-requires g c =
     let most = range.feeders.1 in
     let are = dealt s c.args.picture.now c.args.stream.now range c.requires.encoded c.requires.sized.boxes ssrc c.requires.sized.chunk c.in_ok-packets.packets c.in_ok-parts.parts c.from.result c.args.state
     c.in_ok-packets.ensures (omega (arith, feeders, some)) (omega (arith, feeders, most)) c.in_ok-parts.ensures in
-    let came = c.in_ok-receive_picture.ensures.received in
-    let brought = are.brings came.0 c.in_ok-receive_picture.field-0 came.1 came.2 in
+    let came = c.in_ok-receive_picture.ensures in
+    let reception = c.in_ok-receive_picture.field-0 in
+    let brought = are.brings (held_in reception.board.actor.stored) reception.received came.selection came.received in
     let one = one_received c.picture_of-decoded.result brought.0 (sym c.picture_of-decoded.ensures ∙ brought.1) in
     c.requires.shape ∙ sym brought.2 ∙ sym (ap (λ (p : Picture). p.shape) one)
 
@@ -82,8 +85,9 @@ returns g c =
     let most = range.feeders.1 in
     let are = dealt s c.args.picture.now c.args.stream.now range c.requires.encoded c.requires.sized.boxes ssrc c.requires.sized.chunk c.in_ok-packets.packets c.in_ok-parts.parts c.from.result c.args.state
     c.in_ok-packets.ensures (omega (arith, feeders, some)) (omega (arith, feeders, most)) c.in_ok-parts.ensures in
-    let came = c.in_ok-receive_picture.ensures.received in
-    let brought = are.brings came.0 c.in_ok-receive_picture.field-0 came.1 came.2 in
+    let came = c.in_ok-receive_picture.ensures in
+    let reception = c.in_ok-receive_picture.field-0 in
+    let brought = are.brings (held_in reception.board.actor.stored) reception.received came.selection came.received in
     let one = one_received c.picture_of-decoded.result brought.0 (sym c.picture_of-decoded.ensures ∙ brought.1) in (
       brought.0,
       brought.3,

@@ -9,3 +9,6 @@ number_of-workers-requires c = number_given (map string_bytes c.args.words.now) 
 
 pub number_of-feeders-requires : goal.number_of-feeders-requires
 number_of-feeders-requires c = number_given (map string_bytes c.args.words.now) decode_rows c.requires.decode c.requires.whole (codes "--feeders") refl
+
+pub number_of-port-requires : goal.number_of-port-requires
+number_of-port-requires c = number_given (map string_bytes c.args.words.now) decode_rows c.requires.decode c.requires.whole (codes "--port") refl

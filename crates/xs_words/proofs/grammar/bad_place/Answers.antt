@@ -14,4 +14,4 @@ returns-in-Some-clause-near c =
     let options = c.in-Some.options.now in
     let table : table_of (word_in words 0) ≡ Some (rows_of options) =
     ap table_of (sym c.word_in.ensures) ∙ sym c.table_of.ensures ∙ ap (option_map (λ (o : Bor (List CommandOption)). rows_of o.now)) c.in-Some.is in
-    subst (λ (o : Option ℕ). IfSome o (λ place. place ≤ 41)) (sym c.bad_place_after.ensures) (near words (rows_of options) table)
+    subst (λ (o : Option ℕ). IfSome o (λ place. place ≤ 43)) (sym c.bad_place_after.ensures) (near words (rows_of options) table)

@@ -2,9 +2,9 @@ use Rattle.std.proofs.Common.{ℕ, List, subst}
 use Rattle.std.specs.Prelude.{IsErrOf}
 use Rattle.xs_io.specs.declared.traits.TakeFault.TheVariants as take_fault
 use Rattle.xs_endings.specs.Ends.{change_of}
-use Rattle.xs_cli.specs.Receiving.{AreReceived}
+use Rattle.xs_cli.specs.Receiving.{AreReceived, AreUnwrapped}
 use Rattle.xs_cli.specs.Steps.{AreStreamsDecoded}
-use Rattle.xs_cli.proofs.Done.{capture_done, input_failed, no_room, over_limit, streams_done}
+use Rattle.xs_cli.proofs.Done.{capture_done, file_done, input_failed, no_room, over_limit, streams_done}
 use Rattle.xs_cli.proofs.decoding.Decoding.decode.Goals as goal
 
 pub returns-in-Xs : goal.returns-in-Xs
@@ -14,13 +14,21 @@ returns-in-Xs g c =
     rw c.in-Xs.is (streams_done c.args.self.now.crew.workers c.args.self.now.crew.feeders (g.R.Source.left c.args.input.now) (g.R.Source.left c.take_all.new.source) (g.R.Source.faults c.args.input.now) (g.R.Source.faults c.take_all.new.source)
     (g.N.Sink.held c.args.notes.now) (g.N.Sink.faults c.args.notes.now) c.in-Ok.bytes output c.streams.result c.in-Ok.ensures.most c.as_slice.ensures.bytes c.in-Ok.ensures.taken c.in-Ok.ensures.end c.streams.ensures.stop decoded)
 
-pub returns-in-Ok : goal.returns-in-Ok
-returns-in-Ok g c =
+pub returns-in-Rtp : goal.returns-in-Rtp
+returns-in-Rtp g c =
     let output = change_of (g.W.Sink.held c.args.output.now) (g.W.Sink.held c.receive.new.output) (g.W.Sink.faults c.args.output.now) (g.W.Sink.faults c.receive.new.output) in
     let notes = change_of (g.N.Sink.held c.args.notes.now) (g.N.Sink.held c.receive.new.notes) (g.N.Sink.faults c.args.notes.now) (g.N.Sink.faults c.receive.new.notes) in
-    let received = subst (λ (l : List ℕ). AreReceived l output notes c.receive.result) c.as_slice-in-Rtp.ensures.items c.receive.ensures.received in
+    let received = subst (λ (l : List ℕ). AreReceived 0 l output notes c.receive.result) c.as_slice-in-Rtp.ensures.items c.receive.ensures.received in
     rw c.in-Rtp.is (capture_done c.args.self.now.crew.workers c.args.self.now.crew.feeders (g.R.Source.left c.args.input.now) (g.R.Source.left c.take_all.new.source) (g.R.Source.faults c.args.input.now) (g.R.Source.faults c.take_all.new.source)
     c.in-Ok.bytes output notes c.receive.result c.in-Ok.ensures.most c.as_slice-in-Rtp.ensures.bytes c.in-Ok.ensures.taken c.in-Ok.ensures.end c.receive.ensures.stop c.receive.ensures.notes_later received)
+
+pub returns-in-Ok : goal.returns-in-Ok
+returns-in-Ok g c =
+    let output = change_of (g.W.Sink.held c.args.output.now) (g.W.Sink.held c.receive_file.new.output) (g.W.Sink.faults c.args.output.now) (g.W.Sink.faults c.receive_file.new.output) in
+    let notes = change_of (g.N.Sink.held c.args.notes.now) (g.N.Sink.held c.receive_file.new.notes) (g.N.Sink.faults c.args.notes.now) (g.N.Sink.faults c.receive_file.new.notes) in
+    let received = subst (λ (l : List ℕ). AreUnwrapped c.in-Pcap.port l output notes c.receive_file.result) c.as_slice-in-Pcap.ensures.items c.receive_file.ensures.received in
+    rw c.in-Pcap.is (file_done c.in-Pcap.port c.args.self.now.crew.workers c.args.self.now.crew.feeders (g.R.Source.left c.args.input.now) (g.R.Source.left c.take_all.new.source) (g.R.Source.faults c.args.input.now) (g.R.Source.faults c.take_all.new.source)
+    c.in-Ok.bytes output notes c.receive_file.result c.in-Ok.ensures.most c.as_slice-in-Pcap.ensures.bytes c.in-Ok.ensures.taken c.in-Ok.ensures.end c.receive_file.ensures.stop c.receive_file.ensures.notes_later received)
 
 pub returns-in-Err-Limit : goal.returns-in-Err-Limit
 returns-in-Err-Limit g c =

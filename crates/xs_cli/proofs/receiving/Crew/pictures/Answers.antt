@@ -1,30 +1,29 @@
-use Rattle.std.proofs.Common.{rules, ◌≡◌, ◌∙◌, ◌<◌, ◌≤◌, Err, length, get_or, ap, arith}
+use Rattle.std.proofs.Common.{rules, ◌≡◌, ◌∙◌, ◌<◌, ◌≤◌, Err, length, get_or, ap, refl, arith}
 use Rattle.xs_capture.specs.Pictures.{Sorting, without_offers}
 use Rattle.xs_recv.specs.Received.{offered_bytes}
+use Rattle.xs_cli.specs.Captured.{with_stepped}
 use Rattle.xs_cli.proofs.CapturedKnown.{all_answered, as_many, small_at}
 use Rattle.xs_cli.proofs.CapturedSaid.{all_said, more_cut, none_more, offers_here, one_more, stepped_cut, stepped_given}
 use Rattle.xs_cli.proofs.receiving.Crew.pictures.Goals as goal
 
 pub returns-in_err-tell_stepped : goal.returns-in_err-tell_stepped
 returns-in_err-tell_stepped g c =
-    let s = c.args.sorted in
+    let s = with_stepped c.args.sorted c.args.stepped in
     let all = all_answered c.requires.sorted.capture c.args.sorted c.requires.sorted.bytes c.requires.sorted.sorts in
     let many = as_many c.requires.sorted.capture c.args.sorted c.requires.sorted.sorts in
     let e : c.from_residual.result ≡ Err c.in_err-tell_stepped.field-0.0 = search rules in
-    let given = rw c.stepped.ensures at c.in_err-tell_stepped.ensures in
-    rw e (stepped_cut s all many (g.W.Sink.held c.args.output.now) (g.N.Sink.held c.args.notes.now) (g.N.Sink.held c.tell_stepped.new.notes) (g.W.Sink.faults c.args.output.now) (g.N.Sink.faults c.args.notes.now) (g.N.Sink.faults c.tell_stepped.new.notes) c.in_err-tell_stepped.field-0.0 given)
+    rw e (stepped_cut s all many (g.W.Sink.held c.args.output.now) (g.N.Sink.held c.args.notes.now) (g.N.Sink.held c.tell_stepped.new.notes) (g.W.Sink.faults c.args.output.now) (g.N.Sink.faults c.args.notes.now) (g.N.Sink.faults c.tell_stepped.new.notes) c.in_err-tell_stepped.field-0.0 c.in_err-tell_stepped.ensures)
 
 pub pictures-init : goal.pictures-init
 pictures-init g c =
-    let s = c.args.sorted in
+    let s = with_stepped c.args.sorted c.args.stepped in
     let all = all_answered c.requires.sorted.capture c.args.sorted c.requires.sorted.bytes c.requires.sorted.sorts in
     let many = as_many c.requires.sorted.capture c.args.sorted c.requires.sorted.sorts in
-    let given = rw c.stepped.ensures at c.in_ok-tell_stepped.ensures in
-    stepped_given s all many (g.W.Sink.held c.args.output.now) (g.N.Sink.held c.args.notes.now) (g.N.Sink.held c.tell_stepped.new.notes) (g.W.Sink.faults c.args.output.now) (g.N.Sink.faults c.args.notes.now) (g.N.Sink.faults c.tell_stepped.new.notes) _ given
+    stepped_given s all many c.args.sorted refl refl (g.W.Sink.held c.args.output.now) (g.N.Sink.held c.args.notes.now) (g.N.Sink.held c.tell_stepped.new.notes) (g.W.Sink.faults c.args.output.now) (g.N.Sink.faults c.args.notes.now) (g.N.Sink.faults c.tell_stepped.new.notes) _ c.in_ok-tell_stepped.ensures
 
 pub picture-requires-clause-small : goal.picture-requires-clause-small
 picture-requires-clause-small g c κs within =
-    let s = c.args.sorted in
+    let s = with_stepped c.args.sorted c.args.stepped in
     let all = all_answered c.requires.sorted.capture c.args.sorted c.requires.sorted.bytes c.requires.sorted.sorts in
     let many = as_many c.requires.sorted.capture c.args.sorted c.requires.sorted.sorts in
     let below : c.pictures.number < length c.args.sorted.timestamps = omega (arith, c.count-number-end.ensures, c.pictures-test.true, c.pictures.auto.number-end) in
@@ -34,7 +33,7 @@ picture-requires-clause-small g c κs within =
 
 pub returns-in_err-received : goal.returns-in_err-received
 returns-in_err-received g c =
-    let s = c.args.sorted in
+    let s = with_stepped c.args.sorted c.args.stepped in
     let all = all_answered c.requires.sorted.capture c.args.sorted c.requires.sorted.bytes c.requires.sorted.sorts in
     let many = as_many c.requires.sorted.capture c.args.sorted c.requires.sorted.sorts in
     let e : c.from_residual-in_err-received.result ≡ Err c.in_err-received.field-0.0 = search rules in
@@ -42,7 +41,7 @@ returns-in_err-received g c =
 
 pub returns-in_err-more : goal.returns-in_err-more
 returns-in_err-more g c =
-    let s = c.args.sorted in
+    let s = with_stepped c.args.sorted c.args.stepped in
     let all = all_answered c.requires.sorted.capture c.args.sorted c.requires.sorted.bytes c.requires.sorted.sorts in
     let many = as_many c.requires.sorted.capture c.args.sorted c.requires.sorted.sorts in
     let below : c.pictures.number < length c.args.sorted.timestamps = omega (arith, c.count-number-end.ensures, c.pictures-test.true, c.pictures.auto.number-end) in
@@ -54,7 +53,7 @@ returns-in_err-more g c =
 
 pub pictures-preserved : goal.pictures-preserved
 pictures-preserved g c =
-    let s = c.args.sorted in
+    let s = with_stepped c.args.sorted c.args.stepped in
     let all = all_answered c.requires.sorted.capture c.args.sorted c.requires.sorted.bytes c.requires.sorted.sorts in
     let many = as_many c.requires.sorted.capture c.args.sorted c.requires.sorted.sorts in
     let below : c.pictures.number < length c.args.sorted.timestamps = omega (arith, c.count-number-end.ensures, c.pictures-test.true, c.pictures.auto.number-end) in
@@ -66,7 +65,7 @@ pictures-preserved g c =
 
 pub returns : goal.returns
 returns g c =
-    let s = c.args.sorted in
+    let s = with_stepped c.args.sorted c.args.stepped in
     let all = all_answered c.requires.sorted.capture c.args.sorted c.requires.sorted.bytes c.requires.sorted.sorts in
     let many = as_many c.requires.sorted.capture c.args.sorted c.requires.sorted.sorts in
     let end : length c.args.sorted.timestamps ≤ c.pictures.number = omega (arith, c.count-number-end.ensures, c.pictures-test.false) in

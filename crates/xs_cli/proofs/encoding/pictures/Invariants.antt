@@ -2,7 +2,7 @@ use Rattle.std.proofs.Common.{◌*◌}
 use Rattle.xs_params.specs.Picture.{raw_size}
 use Rattle.xs_endings.specs.Ends.{change_of}
 use Rattle.xs_cli.proofs.Written.{HasWritten}
-use Rattle.xs_cli.proofs.encoding.encode.Given as goal
+use Rattle.xs_cli.proofs.encoding.pictures.Given as goal
 
 abbrev pub invariant-pictures : goal.invariant-pictures
 invariant-pictures g l =
