@@ -23,9 +23,11 @@ take_frames() {
     ffmpeg -v error -i "$1" -frames:v "$2" -vf "crop=$width:$height:0:0" -f rawvideo -pix_fmt yuv422p10le "$3"
 }
 
-# Encodes raw pictures at about so many bits a pixel. A slice is 16 lines by default.
+# Encodes raw pictures at about so many bits a pixel, with these other words. A slice is 16 lines by default.
 encode() {
-    "$program" encode --width "$width" --height "$height" --depth 10 --share $((width * 16 * $1 / 8))
+    share=$((width * 16 * $1 / 8))
+    shift
+    "$program" encode --width "$width" --height "$height" --depth 10 --share "$share" "$@"
 }
 
 # How far raw pictures are from others, in dB; `inf` where they are equal.
