@@ -1,4 +1,4 @@
-// Lines there and back through the wavelet. Whole planes are those of the pictures that are encoded and decoded.
+// Lines there and back through the wavelet.
 use xs_wave::{analyse_line, synthesise_line};
 
 // The greatest magnitude that a line may have, and its double.

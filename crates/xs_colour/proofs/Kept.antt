@@ -4,7 +4,7 @@ use Rattle.std.proofs.lemmas.Bool.{cases_eq}
 use Rattle.std.proofs.lemmas.Grind.{get_or-set_at}
 use Rattle.std.proofs.lemmas.Int.{ints}
 use Rattle.std.proofs.Math.ListN.{set}
-use Rattle.xs_signal.specs.Colour.{rct}
+use Rattle.xs_signal.specs.Colour.{rct, unrct}
 use Rattle.xs_signal.specs.Lines.{IsBelow, entries_of}
 use Rattle.xs_signal.proofs.Floors.{quarter_low, quarter_high}
 
@@ -17,9 +17,9 @@ passed_same y z e small = omega (arith, ints, e, small.least, small.most)
 
 -- three small numbers are turned into three that are kept whole
 pub record IsKept (t u : ℤ × ℤ × ℤ) : Type 0 where
-  pub luma : passed t.0 ≡ u.0
-  pub first : passed t.1 ≡ u.1
-  pub second : passed t.2 ≡ u.2
+  pub first : passed t.0 ≡ u.0
+  pub second : passed t.1 ≡ u.1
+  pub third : passed t.2 ≡ u.2
 
 pub turned_kept : (r g b x y z : ℤ) (t : ℤ × ℤ × ℤ) → IsBelow (2 ^ 28) r → IsBelow (2 ^ 28) g → IsBelow (2 ^ 28) b → x ≡ r → y ≡ g → z ≡ b → t ≡ rct x y z → IsKept t (rct r g b)
 turned_kept r g b x y z t red green blue is_r is_g is_b is =
@@ -29,9 +29,22 @@ turned_kept r g b x y z t red green blue is_r is_g is_b is =
     let first = ap (λ k. k.1) same in
     let second = ap (λ k. k.2) same in
     record {
-      luma = omega (arith, ints, luma, quarter_low sum, quarter_high sum, red.least, red.most, green.least, green.most, blue.least, blue.most);
-      first = omega (arith, ints, first, green.least, green.most, blue.least, blue.most);
-      second = omega (arith, ints, second, red.least, red.most, green.least, green.most);
+      first = omega (arith, ints, luma, quarter_low sum, quarter_high sum, red.least, red.most, green.least, green.most, blue.least, blue.most);
+      second = omega (arith, ints, first, green.least, green.most, blue.least, blue.most);
+      third = omega (arith, ints, second, red.least, red.most, green.least, green.most);
+    }
+
+pub turned_back_kept : (y u v k l m : ℤ) (t : ℤ × ℤ × ℤ) → IsBelow (2 ^ 28) y → IsBelow (2 ^ 28) u → IsBelow (2 ^ 28) v → k ≡ y → l ≡ u → m ≡ v → t ≡ unrct k l m → IsKept t (unrct y u v)
+turned_back_kept y u v k l m t luma first second is_y is_u is_v is =
+    let same : t ≡ unrct y u v = is ∙ ap (λ x. unrct x l m) is_y ∙ ap (λ x. unrct y x m) is_u ∙ ap (λ x. unrct y u x) is_v in
+    let sum = u +ℤ v in
+    let red = ap (λ x. x.0) same in
+    let green = ap (λ x. x.1) same in
+    let blue = ap (λ x. x.2) same in
+    record {
+      first = omega (arith, ints, red, quarter_low sum, quarter_high sum, luma.least, luma.most, first.least, first.most, second.least, second.most);
+      second = omega (arith, ints, green, quarter_low sum, quarter_high sum, luma.least, luma.most, first.least, first.most, second.least, second.most);
+      third = omega (arith, ints, blue, quarter_low sum, quarter_high sum, luma.least, luma.most, first.least, first.most, second.least, second.most);
     }
 
 -- one more entry is written

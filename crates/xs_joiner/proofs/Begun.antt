@@ -5,8 +5,8 @@ use Rattle.std.proofs.lemmas.Bool.{ltb-true, ltb-false}
 use Rattle.xs_signal.specs.Lines.{entries_of}
 use Rattle.xs_signal.specs.Wavelet.{Split, Bands, low_count, high_count, inverse_line}
 use Rattle.xs_signal.specs.Stripe.{rows_at, rows_each}
-use Rattle.xs_joiner.specs.Units.{BelowUnits}
-use Rattle.xs_joiner.specs.Source.{IsFresh, ShowBands}
+use Rattle.xs_joiner.specs.Units.{BelowUnits, IsFresh}
+use Rattle.xs_joiner.specs.Source.{ShowBands}
 use Rattle.xs_joiner.specs.Columns.{SameLine}
 use Rattle.xs_joiner.specs.Level.{IsLevel, IsSameLevel, HoldsRows}
 use Rattle.xs_joiner.specs.Counts.{taken_by, given_at}

@@ -27,14 +27,6 @@ begun_rows start t r line l taken wide shown same = record {
   flat = λ flat some. absurd (omega (arith, some, taken));
 }
 
--- only the columns of a level are new
-pub level_with : (old new : Level) → IsLevel old → new.deep ≡ old.deep → IsColumns new.columns → new.columns.height ≡ old.columns.height → (new.deep ≡ false → BelowUnits (new.columns.reach + 6) (entries_of new.columns.even)) → IsLevel new
-level_with old new s deep columns tall flat = record {
-  columns = columns;
-  two = λ is. subst (λ k. 2 ≤ k) (sym tall) (s.two (sym deep ∙ is));
-  flat = flat;
-}
-
 pub taken_deep : (start number : ℕ) (t r : ℕ → ℕ → ℤ) (row hl : List ℤ) (rows : Band → ℕ → List ℤ) (old mid new : Level) → IsLevel mid → mid.deep ≡ true → IsSameLevel old mid → mid.columns.taken ≡ old.columns.taken
     → (old.deep ≡ true → old.columns.taken < high_count old.columns.height → Shows mid.columns.spare (inverse_line old.columns.width (entries_of (rows (Lh number) old.columns.taken)) (entries_of (rows (Hh number) old.columns.taken))))
     → HoldsRows start t r mid → AreNext old row rows number t r → hl ≡ rows (Hl number) old.columns.taken → new.deep ≡ mid.deep

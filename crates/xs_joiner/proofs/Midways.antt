@@ -5,8 +5,8 @@ use Rattle.std.proofs.lemmas.Grind.{get_or-set_at}
 use Rattle.xs_signal.specs.Lines.{entries_of, Shows}
 use Rattle.xs_signal.specs.Wavelet.{Split, Bands, low_count, high_count, low_count_at, inverse_line, restored, inverse_plane}
 use Rattle.xs_signal.specs.Stripe.{rows_at, rows_each}
-use Rattle.xs_joiner.specs.Units.{BelowUnits, rise}
-use Rattle.xs_joiner.specs.Source.{IsFresh, ShowBands}
+use Rattle.xs_joiner.specs.Units.{BelowUnits, rise, IsFresh}
+use Rattle.xs_joiner.specs.Source.{ShowBands}
 use Rattle.xs_joiner.specs.Columns.{SameLine}
 use Rattle.xs_joiner.specs.Level.{IsLevel, IsSameLevel, IsKnownLine, HoldsRows, AreNext, given_rows, lows}
 use Rattle.xs_joiner.specs.Counts.{taken_by, given_at}
@@ -26,6 +26,8 @@ pub record IsGiven (l n : Level) (line : List ℤ) : Type 0 where
   pub columns : n.columns ≡ l.columns
   pub deep : n.deep ≡ l.deep
   pub given : n.given ≡ l.given + 1
+  pub low : n.low ≡ l.low
+  pub high : n.high ≡ l.high
   pub width : length line ≡ l.columns.width
   pub small : BelowUnits (l.columns.reach + rise l.deep) (entries_of line)
   pub shows : (start : ℕ) (t r : ℕ → ℕ → ℤ) → HoldsRows start t r l → (if l.deep then 2 * start else start) ≤ l.given → Shows line (given_rows l t r l.given)
@@ -43,6 +45,8 @@ state_given l n line g state = record {
   columns = rw g.columns state.columns;
   two = λ deep. rw g.columns (state.two (sym g.deep ∙ deep));
   flat = λ flat. rw g.columns (state.flat (sym g.deep ∙ flat));
+  low_width = ap length g.low ∙ state.low_width ∙ sym (ap (λ c. low_count c.width) g.columns);
+  high_width = ap length g.high ∙ state.high_width ∙ sym (ap (λ c. high_count c.width) g.columns);
 }
 
 at_given : (s : Split) (level given taken more : ℕ) (l n : Level) (line : List ℤ) → IsGiven l n line → IsLevelAt s level given taken l → more ≡ given + 1 → IsLevelAt s level more taken n

@@ -3,8 +3,7 @@ use Rattle.std.specs.Prelude.{◌≡◌, ℕ, suc, ◌+◌, ◌-◌, ◌*◌, �
 use Rattle.xs_signal.specs.Lines.{entries_of, Shows}
 use Rattle.xs_signal.specs.Wavelet.{Split, Bands, low_count, high_count, low_count_at, rows_joined, restored, inverse_plane}
 use Rattle.xs_signal.specs.Stripe.{IsSplit, rows_at, rows_each}
-use Rattle.xs_joiner.specs.Units.{BelowUnits}
-use Rattle.xs_joiner.specs.Source.{IsFresh}
+use Rattle.xs_joiner.specs.Units.{BelowUnits, IsFresh}
 use Rattle.xs_joiner.specs.Level.{IsLevel, HoldsRows}
 use Rattle.xs_joiner.specs.Counts.{given_at}
 use Rattle.xs_joiner.specs.declared.level.Level.{Level}

@@ -1,5 +1,5 @@
 -- One level of a component's inverse: '5/3 wavelet'.
-use Rattle.std.specs.Prelude.{◌≡◌, ℕ, ◌+◌, ◌-◌, ◌*◌, ◌<◌, ◌≤◌, List, ℤ, true, false, if◌then◌else◌}
+use Rattle.std.specs.Prelude.{◌≡◌, ℕ, ◌+◌, ◌-◌, ◌*◌, ◌<◌, ◌≤◌, List, ℤ, length, true, false, if◌then◌else◌}
 use Rattle.xs_signal.specs.Lines.{entries_of, Shows}
 use Rattle.xs_signal.specs.Wavelet.{low_count, high_count, inverse_line}
 use Rattle.xs_joiner.specs.Units.{BelowUnits}
@@ -22,6 +22,8 @@ pub record IsLevel (l : Level) : Type 0 where
   pub columns : IsColumns l.columns
   pub two : l.deep ≡ true → 2 ≤ l.columns.height
   pub flat : l.deep ≡ false → BelowUnits (l.columns.reach + 6) (entries_of l.columns.even)
+  pub low_width : length l.low ≡ low_count l.columns.width
+  pub high_width : length l.high ≡ high_count l.columns.width
 
 -- it holds the last of the rows from `start` on
 pub record HoldsRows (start : ℕ) (low high : ℕ → ℕ → ℤ) (l : Level) : Type 0 where

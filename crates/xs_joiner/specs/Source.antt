@@ -6,11 +6,6 @@ use Rattle.xs_joiner.specs.Units.{BelowUnits}
 use Rattle.xs_joiner.specs.declared.source.Band.{Band}
 use Rattle.xs_joiner.specs.declared.source.Band.TheVariants.{Lowest, Hl, Lh, Hh}
 
--- a row that is there: it has this width, and its numbers are below the bound of bands
-pub record IsFresh (width : ℕ) (numbers : List ℤ) : Type 0 where
-  pub wide : length numbers ≡ width
-  pub small : BelowUnits 4 (entries_of numbers)
-
 -- the plane of one of the bands; those of level 0 have the number 1
 abbrev pub plane_in : Bands → Band → ℕ → ℕ → ℤ
 plane_in b Lowest = b.ll

@@ -150,7 +150,7 @@ impl Joiner {
         if depth < self.across {
             self.levels[place].give(&mut self.lines[place]);
         } else {
-            self.lines[place].copy_from(rows.row(Band::Lowest, self.lowest));
+            self.lines[place].fill(rows, Band::Lowest, self.lowest);
             self.lowest = count_after(self.lowest, self.height);
         }
     }

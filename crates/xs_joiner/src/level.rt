@@ -3,8 +3,7 @@ ghost use Rattle.std.specs.Prelude.{◌≡◌, ℕ, ℤ, ◌+◌, ◌-◌, ◌*�
 ghost use Rattle.xs_signal.specs.Lines.{Shows, entries_of};
 ghost use Rattle.xs_signal.specs.Wavelet.{low_count, high_count, inverse_line};
 ghost use Rattle.xs_joiner.specs.Columns.{SameLine};
-ghost use Rattle.xs_joiner.specs.Source.{IsFresh};
-ghost use Rattle.xs_joiner.specs.Units.{BelowUnits, rise};
+ghost use Rattle.xs_joiner.specs.Units.{BelowUnits, IsFresh, rise};
 
 use crate::columns::Columns;
 use crate::row::Row;
@@ -12,12 +11,14 @@ use crate::source::{Band, BandRows};
 use std::alloc::Global;
 use xs_io::Memory;
 
-/// The rows that wait where the level is split down, and how many rows it has given.
+/// The rows that wait where the level is split down, how many rows it has given, and the rows of its bands on their way.
 #[derive(Drop)]
 pub struct Level {
     columns: Columns,
     deep: bool,
     given: u32,
+    low: Row,
+    high: Row,
 }
 
 /// The rows that a level makes: how wide they are, how many, below how many units their numbers are, and whether the level
@@ -67,10 +68,15 @@ impl Level {
         ensures shape { IfOk result (λ l. (l.columns.width ≡ shape.width) × (l.columns.height ≡ shape.height) × (l.columns.reach ≡ shape.reach - rise shape.deep) × (l.deep ≡ shape.deep) × (l.columns.taken ≡ 0) × (l.given ≡ 0)) }
     {
         let reach = shape.reach - if shape.deep { 21 } else { 6 };
+        let columns = Columns::new(alloc, shape.width, shape.height, reach)?;
+        let low = Row::zeros(alloc, shape.width - shape.width / 2)?;
+        let high = Row::zeros(alloc, shape.width / 2)?;
         Ok(Level {
-            columns: Columns::new(alloc, shape.width, shape.height, reach)?,
+            columns,
             deep: shape.deep,
             given: 0,
+            low,
+            high,
         })
     }
 
@@ -104,9 +110,10 @@ impl Level {
             return;
         }
         if start > 0 {
-            let lh = rows.row(Band::Lh(number), start - 1);
-            let hh = rows.row(Band::Hh(number), start - 1);
-            self.columns.take_high(lh, hh);
+            self.low.fill(rows, Band::Lh(number), start - 1);
+            self.high.fill(rows, Band::Hh(number), start - 1);
+            self.columns
+                .take_high(self.low.as_slice(), self.high.as_slice());
             self.columns.keep_high();
         }
     }
@@ -143,11 +150,11 @@ impl Level {
     {
         let place = self.columns.taken();
         self.take_high(rows, number);
-        let hl = rows.row(Band::Hl(number), place);
+        self.high.fill(rows, Band::Hl(number), place);
         if self.deep {
-            self.columns.take_low(low, hl);
+            self.columns.take_low(low, self.high.as_slice());
         } else {
-            self.columns.take_flat(low, hl);
+            self.columns.take_flat(low, self.high.as_slice());
         }
     }
 
@@ -166,9 +173,10 @@ impl Level {
     {
         if self.wants_high() {
             let place = self.columns.taken();
-            let lh = rows.row(Band::Lh(number), place);
-            let hh = rows.row(Band::Hh(number), place);
-            self.columns.take_high(lh, hh);
+            self.low.fill(rows, Band::Lh(number), place);
+            self.high.fill(rows, Band::Hh(number), place);
+            self.columns
+                .take_high(self.low.as_slice(), self.high.as_slice());
         }
     }
 
@@ -188,6 +196,8 @@ impl Level {
         ensures columns { self.new.columns ≡ self.old.columns }
         ensures deep { self.new.deep ≡ self.old.deep }
         ensures given { self.new.given ≡ self.old.given + 1 }
+        ensures low { self.new.low ≡ self.old.low }
+        ensures high { self.new.high ≡ self.old.high }
         ensures width { length line.new ≡ self.old.columns.width }
         ensures small { BelowUnits (self.old.columns.reach + rise self.old.deep) (entries_of line.new) }
         ensures shows { (start : ℕ) (t r : ℕ → ℕ → ℤ) → HoldsRows start t r self.old → (if self.old.deep then 2 * start else start) ≤ self.old.given → Shows line.new (given_rows self.old t r self.old.given) }

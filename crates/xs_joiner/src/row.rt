@@ -1,9 +1,11 @@
 //! A row of numbers that is kept.
-ghost use Rattle.std.specs.Prelude.{◌≡◌, ℕ, ℤ, pos, ◌+◌, ◌*◌, ◌≤◌, ◌^◌, ◌+ℤ◌, ◌-ℤ◌, length, IfOk};
+ghost use Rattle.std.specs.Prelude.{◌≡◌, ℕ, ℤ, pos, ◌+◌, ◌*◌, ◌<◌, ◌≤◌, ◌^◌, ◌+ℤ◌, ◌-ℤ◌, length, IfOk};
 ghost use Rattle.std.specs.Int.{int_shr};
 ghost use Rattle.xs_signal.specs.Lines.{AllBelow, Shows, entries_of};
 ghost use Rattle.xs_signal.specs.Wavelet.{low_count, high_count, inverse_line};
+ghost use Rattle.xs_joiner.specs.Units.{IsFresh};
 
+use crate::source::{Band, BandRows};
 use std::alloc::Global;
 use std::marker::Model;
 use xs_io::Memory;
@@ -38,6 +40,15 @@ impl Row {
         ensures { result.now ≡ self.now }
     {
         self.numbers.as_slice()
+    }
+
+    // Becomes a row of a band.
+    pub(crate) fn fill<S: BandRows>(&mut self, rows: &S, band: Band, row: u32)
+        requires some { 0 < length self.old }
+        requires known { IsFresh (length self.old) (S.rows rows.now band row) }
+        ensures { self.new ≡ S.rows rows.now band row }
+    {
+        rows.fill(band, row, self.numbers.as_mut_slice());
     }
 
     // Becomes a copy of these numbers.

@@ -1,5 +1,6 @@
 //! Where the rows of the bands come from.
 ghost use Rattle.std.specs.Prelude.{◌≡◌, ℕ, ℤ, ◌<◌, List, length};
+ghost use Rattle.xs_joiner.specs.Units.{IsFresh};
 
 /// One of the bands of a component. Levels are numbered from 0 on: level 0 makes the lines of the component.
 #[derive(Clone, Copy)]
@@ -21,8 +22,9 @@ pub trait BandRows {
     // The numbers of a row, by its place in the whole band. A row that is not there has none.
     ghost rows: { Self → Band → ℕ → List ℤ };
 
-    /// The numbers of a row that is there.
-    fn row(&self, band: Band, row: u32) -> &[i32]
-        requires known { 0 < length (rows self.now band row) }
-        ensures { result.now ≡ rows self.now band row };
+    /// Fills the places with the numbers of a row that is there.
+    fn fill(&self, band: Band, row: u32, numbers: &mut [i32])
+        requires some { 0 < length numbers.old }
+        requires known { IsFresh (length numbers.old) (rows self.now band row) }
+        ensures { numbers.new ≡ rows self.now band row };
 }

@@ -1,9 +1,11 @@
 -- What the steps on single numbers give, in the words of the definitions.
-use Rattle.std.proofs.Common.{◌≡◌, ℕ, ◌+◌, ◌-◌, ◌^◌, ◌≤◌, min, ℤ, pos, ◌+ℤ◌, ◌-ℤ◌, arith, ◌∙◌, w32, to_z, of_z}
+use Rattle.std.proofs.Common.{◌≡◌, ℕ, suc, refl, ap, ◌<◌, ◌+◌, ◌-◌, ◌*◌, ◌%◌, ◌^◌, ◌≤◌, min, ℤ, pos, negsuc, ◌+ℤ◌, ◌-ℤ◌, ◌*ℤ◌, arith, sym, subst, ◌∙◌, w32, to_z, of_z, SFits}
 use Rattle.std.proofs.lemmas.Int.{ints}
+use Rattle.std.proofs.lemmas.Nat.{pow_pos}
 use Rattle.std.specs.Int.{int_shr}
 use Rattle.xs_signal.specs.Lines.{IsBelow, AllBelow}
 use Rattle.xs_signal.specs.Wavelet.{low_count, high_count, predicted_sample, updated}
+use Rattle.xs_signal.specs.Samples.{clamped, scale_out}
 use Rattle.xs_signal.proofs.Floors.{half_low, half_high, quarter_low, quarter_high}
 
 -- a number that was passed
@@ -93,3 +95,44 @@ update_forward_from b x left right r y l h most sx sl sh same_y same_l same_h e 
     let value : r ≡ x +ℤ int_shr s 2 = cc in
     let kept : passed r ≡ r = omega (arith, ints, value, quarter_low s, quarter_high s, sx.least, sx.most, sl.least, sl.most, sh.least, sh.most) in
     kept ∙ value
+
+-- ---- shifts
+
+six : (n : ℤ) → SFits w32 n → IsBelow (2 ^ 23) (n *ℤ pos 64) → to_z w32 (of_z w32 n * 64 % 4294967296) ≡ n *ℤ pos 64
+six (pos m) fits small = omega (arith, ints, fits, small.least, small.most)
+six (negsuc m) fits small =
+    let few : m < 131072 = omega (arith, ints, small.least) in
+    let old : of_z w32 (negsuc m) ≡ 4294967296 - suc m = refl in
+    let new : of_z w32 (negsuc (64 * m + 63)) ≡ 4294967296 - suc (64 * m + 63) = refl in
+    let word : of_z w32 (negsuc m) * 64 % 4294967296 ≡ of_z w32 (negsuc (64 * m + 63)) = omega (arith, old, new, few) in
+    let product : negsuc m *ℤ pos 64 ≡ negsuc (64 * m + 63) = omega (arith, ints) in
+    let kept : to_z w32 (of_z w32 (negsuc (64 * m + 63))) ≡ negsuc (64 * m + 63) = omega (arith, ints, few) in
+    ap (to_z w32) word ∙ kept ∙ sym product
+
+eight : (n : ℤ) → SFits w32 n → IsBelow (2 ^ 23) (n *ℤ pos 256) → to_z w32 (of_z w32 n * 256 % 4294967296) ≡ n *ℤ pos 256
+eight (pos m) fits small = omega (arith, ints, fits, small.least, small.most)
+eight (negsuc m) fits small =
+    let few : m < 32768 = omega (arith, ints, small.least) in
+    let old : of_z w32 (negsuc m) ≡ 4294967296 - suc m = refl in
+    let new : of_z w32 (negsuc (256 * m + 255)) ≡ 4294967296 - suc (256 * m + 255) = refl in
+    let word : of_z w32 (negsuc m) * 256 % 4294967296 ≡ of_z w32 (negsuc (256 * m + 255)) = omega (arith, old, new, few) in
+    let product : negsuc m *ℤ pos 256 ≡ negsuc (256 * m + 255) = omega (arith, ints) in
+    let kept : to_z w32 (of_z w32 (negsuc (256 * m + 255))) ≡ negsuc (256 * m + 255) = omega (arith, ints, few) in
+    ap (to_z w32) word ∙ kept ∙ sym product
+
+pub shifted_six : (n : ℤ) (f : ℕ) → f ≡ 6 → SFits w32 n → IsBelow (2 ^ 23) (n *ℤ pos (2 ^ f)) → to_z w32 (of_z w32 n * 2 ^ f % 4294967296) ≡ n *ℤ pos (2 ^ f)
+shifted_six n f is fits small =
+    subst (λ k. to_z w32 (of_z w32 n * 2 ^ k % 4294967296) ≡ n *ℤ pos (2 ^ k)) (sym is) (six n fits (subst (λ k. IsBelow (2 ^ 23) (n *ℤ pos (2 ^ k))) is small))
+
+pub shifted_eight : (n : ℤ) (f : ℕ) → f ≡ 8 → SFits w32 n → IsBelow (2 ^ 23) (n *ℤ pos (2 ^ f)) → to_z w32 (of_z w32 n * 2 ^ f % 4294967296) ≡ n *ℤ pos (2 ^ f)
+shifted_eight n f is fits small =
+    subst (λ k. to_z w32 (of_z w32 n * 2 ^ k % 4294967296) ≡ n *ℤ pos (2 ^ k)) (sym is) (eight n fits (subst (λ k. IsBelow (2 ^ 23) (n *ℤ pos (2 ^ k))) is small))
+
+-- ---- samples
+
+clamped_most : (most : ℕ) (z : ℤ) → clamped most z ≤ most
+clamped_most most (pos n) = omega arith
+clamped_most most (negsuc n) = omega arith
+
+pub sample_below : (depth bw : ℕ) (z : ℤ) → scale_out depth bw z < 2 ^ depth
+sample_below depth bw z = let some = pow_pos depth in omega (arith, some, clamped_most (2 ^ depth - 1) (int_shr (z +ℤ pos (2 ^ (bw - 1)) +ℤ pos (2 ^ (bw - depth - 1))) (bw - depth)))

@@ -14,4 +14,4 @@ pub use kernels::{
     predict_forward_row, predict_inverse_row, update_forward_row, update_inverse_row,
 };
 pub use lines::{join_row, split_row};
-pub use scaling::scale_row_in;
+pub use scaling::{raise_row, scale_row_in, scale_row_out};

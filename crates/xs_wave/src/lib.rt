@@ -12,14 +12,12 @@ mod lifting;
 mod lifts;
 mod lines;
 mod planes;
-mod rows;
 mod synthesis;
 
 pub use analysis::analyse_plane;
 pub use bands::BandPlanes;
 pub use lines::{analyse_line, synthesise_line};
 pub use planes::Plane;
-pub use rows::{join_even_row, join_odd_row, lower_row, raise_row, split_even_row, split_odd_row};
 pub use synthesis::synthesise_plane;
 
 /// The transforms look at no entry outside a plane or its bands.

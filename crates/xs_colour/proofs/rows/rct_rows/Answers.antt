@@ -18,9 +18,9 @@ loop-k-preserved c =
     let kept = turned_kept (r k) (g k) (b k) _ _ _ t (c.requires.red k) (c.requires.green k) (c.requires.blue k) (passed_same _ (r k) (i.red k (omega arith)) (c.requires.red k)) (passed_same _ (g k) (i.green k (omega arith)) (c.requires.green k))
     (passed_same _ (b k) (i.blue k (omega arith)) (c.requires.blue k)) c.rct_entry-luma.ensures in
     record {
-      luma = entry_more c.loop-k.red (λ j. (rct (r j) (g j) (b j)).0) k _ inside_red kept.luma i.luma;
-      first = entry_more c.loop-k.green (λ j. (rct (r j) (g j) (b j)).1) k _ inside_green kept.first i.first;
-      second = entry_more c.loop-k.blue (λ j. (rct (r j) (g j) (b j)).2) k _ inside_blue kept.second i.second;
+      luma = entry_more c.loop-k.red (λ j. (rct (r j) (g j) (b j)).0) k _ inside_red kept.first i.luma;
+      first = entry_more c.loop-k.green (λ j. (rct (r j) (g j) (b j)).1) k _ inside_green kept.second i.first;
+      second = entry_more c.loop-k.blue (λ j. (rct (r j) (g j) (b j)).2) k _ inside_blue kept.third i.second;
       red = entry_later c.loop-k.red c.args.red.now k (passed t.0) i.red;
       green = entry_later c.loop-k.green c.args.green.now k (passed t.1) i.green;
       blue = entry_later c.loop-k.blue c.args.blue.now k (passed t.2) i.blue;

@@ -18,4 +18,4 @@ returns-then-depth-self g c =
     let e = c.give.ensures in
     let less : c.args.depth < c.args.self.now.across = omega (arith, c.if-depth-self.true) in
     begin_midway (g.S.BandRows.rows c.args.rows.now) c.args.depth c.args.self.now _ c.index_mut.result.now c.give.new.self c.give.new.line c.requires.chain c.requires.room c.requires.depth less c.index_mut.ensures.value
-    (record { columns = e.columns; deep = e.deep; given = e.given; width = e.width; small = e.small; shows = e.shows }) refl refl refl refl refl refl
+    (record { columns = e.columns; deep = e.deep; given = e.given; low = e.low; high = e.high; width = e.width; small = e.small; shows = e.shows }) refl refl refl refl refl refl

@@ -74,7 +74,7 @@ levels-preserved g c =
     } in
     step_next (g.S.BandRows.rows c.args.rows.now) c.levels.level (c.levels.level - 1) c.args.self.now c.levels.self new c.index_mut.result.now c.take.new.self c.index_mut-in-levels.result.now c.give.new.self c.as_slice.result.now c.index.result.now c.give.new.line is c.levels.invariant
     c.index_mut.ensures.value c.as_slice.ensures c.index.ensures c.requires.chain c.requires.room c.requires.rows (record { same = e.same; given = e.given; taken = e.taken; state = e.state; holds = e.holds }) c.index_mut-in-levels.ensures.value
-    (record { columns = f.columns; deep = f.deep; given = f.given; width = f.width; small = f.small; shows = f.shows }) refl refl refl refl refl refl
+    (record { columns = f.columns; deep = f.deep; given = f.given; low = f.low; high = f.high; width = f.width; small = f.small; shows = f.shows }) refl refl refl refl refl refl
 
 pub returns-clause-chain : goal.returns-clause-chain
 returns-clause-chain g c =
