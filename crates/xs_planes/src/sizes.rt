@@ -12,15 +12,15 @@ pub fn data_bits(counts: &Counts, t: u8, signs_apart: bool) -> u64
     ensures { result ≡ data_size signs_apart (numbered t counts.now []) }
 {
     let items = counts.as_slice();
-    let mut bits = 0;
+    let mut bits: u32 = 0;
     'groups: for group in 0..items.len() {
         bits += group_bits(items[group], t, signs_apart);
     }
-    bits
+    u64::from(bits)
 }
 
 // The bits of a code group.
-fn group_bits(count: u8, t: u8, signs_apart: bool) -> u64
+fn group_bits(count: u8, t: u8, signs_apart: bool) -> u32
     requires range { count ≤ 15 }
     requires cut { t ≤ 15 }
     ensures size { result ≡ size_by_count signs_apart t count }
@@ -29,7 +29,7 @@ fn group_bits(count: u8, t: u8, signs_apart: bool) -> u64
     if count <= t {
         0
     } else {
-        u64::from(group_width(count - t, signs_apart))
+        group_width(count - t, signs_apart)
     }
 }
 

@@ -1,9 +1,10 @@
 -- The counts and the numbers of a row at a truncation.
-use Rattle.std.proofs.Common.{◌≡◌, ℕ, zero, suc, ℤ, ◌+◌, ◌-◌, ◌*◌, ◌/◌, ◌^◌, ◌<◌, ◌≤◌, List, length, map, get_or, set, refl, sym, ap, subst, ◌∙◌, arith}
+use Rattle.std.proofs.Common.{◌≡◌, ℕ, zero, suc, ℤ, ◌+◌, ◌-◌, ◌*◌, ◌/◌, ◌^◌, ◌<◌, ◌≤◌, List, [], ◌∷◌, length, map, get_or, set, refl, sym, ap, subst, ◌∙◌, arith}
 use Rattle.std.specs.Prelude.{Bool, true, false, nat_lt, max, if◌then◌else◌, pos, negsuc, unsigned_abs}
 use Rattle.std.specs.List.{range_with_len, AllByRecursion}
 use Rattle.std.proofs.lemmas.Bool.{ltb-true, ltb-false}
 use Rattle.std.proofs.lemmas.List.FromFn.{get_or-map-range_with_len, length-map-range_with_len}
+use Rattle.std.proofs.Math.Facts.{to_z_pos, to_z-neg}
 use Rattle.std.proofs.Math.Pow.{pow_mono}
 use Rattle.xs_layout.specs.declared.Quant.{Quant}
 use Rattle.xs_signal.specs.Quantiser.{quantised, with_sign_of, sent}
@@ -16,6 +17,8 @@ use Rattle.xs_rate.specs.Laws.{IsSmallRow}
 use Rattle.xs_rate.proofs.Planes.{planes-room}
 use Rattle.xs_groups.proofs.Planes.{planes_most}
 use Rattle.xs_precinct_write.specs.Outgoing.{counts_cut, values_sent}
+use mir.Syntax.{w32}
+use mir.Val.{of_z, to_z}
 
 -- Signs
 
@@ -49,6 +52,13 @@ sent_room kind p t z small = cases (nat_lt t p) refl
         subst (λ k. unsigned_abs (with_sign_of z (quantised kind p t (unsigned_abs z))) < 2 ^ k) same (omega (arith, size_signed z (quantised kind p t (unsigned_abs z)), fits))
     cases false e = let some : 2 ^ 0 ≤ 2 ^ (max p t - t) = pow_mono {i = 0} {j = max p t - t} (omega arith) in omega (arith, some)
 
+none_sent : (kind : Quant) (p t : ℕ) (z : ℤ) → p ≤ t → sent kind p t z ≡ pos 0
+none_sent kind p t z none = cases (nat_lt t p) refl
+  where
+    cases : (some : Bool) → nat_lt t p ≡ some → (if some then with_sign_of z (quantised kind p t (unsigned_abs z)) else pos 0) ≡ pos 0
+    cases true e = absurd (omega (arith, ltb-true t p e, none))
+    cases false e = refl
+
 pub quantised_small : (kind : Quant) (p t x : ℕ) → p ≤ 15 → t ≤ 15 → x < 2 ^ p → quantised kind (max p t) t x < 2 ^ 15
 quantised_small kind p t x most cut small =
     let up : 2 ^ p ≤ 2 ^ max p t = pow_mono {i = p} {j = max p t} (omega arith) in
@@ -80,6 +90,16 @@ group_room row t group small = (
   ),
 )
 
+-- a small number is what its 32 bits are read as
+pub read_back : (z : ℤ) → unsigned_abs z < 2 ^ 15 → to_z w32 (of_z w32 z) ≡ z
+read_back (pos n) small = to_z_pos w32 (omega (arith, small))
+read_back (negsuc n) small = to_z-neg w32 n (omega (arith, small))
+
+-- the magnitudes of coefficients that were read
+pub sizes_of : (row : ℕ → ℤ) (group : ℕ) (read : List ℤ) → read ≡ map row (columns_of group)
+    → unsigned_abs (get_or read 0 (pos 0)) ∷ unsigned_abs (get_or read 1 (pos 0)) ∷ unsigned_abs (get_or read 2 (pos 0)) ∷ unsigned_abs (get_or read 3 (pos 0)) ∷ [] ≡ map (λ column. unsigned_abs (row column)) (columns_of group)
+sizes_of row group read is = ap (λ l. unsigned_abs (get_or l 0 (pos 0)) ∷ unsigned_abs (get_or l 1 (pos 0)) ∷ unsigned_abs (get_or l 2 (pos 0)) ∷ unsigned_abs (get_or l 3 (pos 0)) ∷ []) is
+
 pub number_small : (kind : Quant) (row : ℕ → ℤ) (t count group column : ℕ) → t ≤ 15 → IsSmallRow row → count ≡ max (planes_of row group) t → column / 4 ≡ group → quantised kind count t (unsigned_abs (row column)) < 2 ^ 15
 number_small kind row t count group column cut small is here =
     subst (λ c. quantised kind c t (unsigned_abs (row column)) < 2 ^ 15) (sym is)
@@ -100,6 +120,14 @@ four_put old a b c d first number w x y z p q r s e f g h =
     ∙ ap (λ v. set (set (set (set old first (number 0)) (first + 1) v) (first + 2) y) (first + 3) z) f
     ∙ ap (λ v. set (set (set (set old first (number 0)) (first + 1) (number 1)) (first + 2) v) (first + 3) z) g
     ∙ ap (λ v. set (set (set (set old first (number 0)) (first + 1) (number 1)) (first + 2) (number 2)) (first + 3) v) h
+
+-- nothing is sent of a code group that has no more planes than are cut off
+pub none_put : (kind : Quant) (row : ℕ → ℤ) (t group : ℕ) (old new : List ℤ) → planes_of row group ≤ t → new ≡ put_four old (4 * group) (λ i. pos 0) → new ≡ put_four old (4 * group) (λ i. sent kind (planes_of row group) t (row (4 * group + i)))
+none_put kind row t group old new none put =
+    put ∙ four_put old _ _ _ _ (4 * group) (λ i. sent kind (planes_of row group) t (row (4 * group + i))) (pos 0) (pos 0) (pos 0) (pos 0) refl refl refl refl (nothing 0) (nothing 1) (nothing 2) (nothing 3)
+  where
+    nothing : (i : ℕ) → pos 0 ≡ sent kind (planes_of row group) t (row (4 * group + i))
+    nothing i = sym (none_sent kind (planes_of row group) t (row (4 * group + i)) none)
 
 pub column_is : (kind : Quant) (row : ℕ → ℤ) (t group i column : ℕ) → i < 4 → column ≡ 4 * group + i → sent kind (planes_of row group) t (row (4 * group + i)) ≡ sent kind (planes_of row (column / 4)) t (row column)
 column_is kind row t group i column few at =

@@ -1,4 +1,4 @@
-//! A coefficient's rounding.
+//! A coefficient's rounding: docs/FORMAT.md, 'Rate choice'.
 ghost use Rattle.std.specs.Prelude.{◌≡◌, ℕ, ℤ, ◌+◌, ◌-◌, ◌*◌, ◌/◌, ◌^◌, ◌<◌, ◌≤◌, ◌⊎◌, min};
 ghost use Rattle.xs_signal.specs.Lines.{IsBelow};
 ghost use Rattle.xs_signal.specs.Fold.{IsFraction, fold as fold_of};

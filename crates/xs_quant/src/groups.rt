@@ -1,4 +1,4 @@
-//! A code group by either quantiser.
+//! A code group by either quantiser: docs/FORMAT.md, 'Quantisers'.
 ghost use Rattle.std.specs.Prelude.{◌≡◌, ℕ, ◌-◌, ◌^◌, ◌<◌, ◌≤◌, map, All};
 ghost use Rattle.xs_signal.specs.Quantiser.{quantised, unquantised};
 

@@ -1,4 +1,4 @@
-//! Rows of coefficients: to the numbers that are coded, and back.
+//! Rows of coefficients: to the numbers that are coded, and back. docs/FORMAT.md, 'Rate choice', 'Quantisers' and '5/3 wavelet'.
 ghost use Rattle.std.specs.Prelude.{◌≡◌, ℕ, ◌-◌, ◌*◌, ◌/◌, ◌<◌, ◌≤◌, ◌^◌, if◌then◌else◌, length, map, pos, neg_ℤ, slice_index_or, slice_set, unsigned_abs};
 ghost use Rattle.std.specs.Int.{is_negative};
 ghost use Rattle.xs_layout.specs.declared.Quant.TheVariants.{DeadZone, Uniform};

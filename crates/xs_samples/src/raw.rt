@@ -1,4 +1,5 @@
 // Raw pictures: component after component, rows from the top, a sample in one byte, or in two with the low one first.
+// docs/FORMAT.md, 'Samples, scaling and colour'.
 ghost use Rattle.std.specs.Prelude.{◌≡◌, ◌≢◌, ◌+◌, ◌*◌, ◌^◌, ◌<◌, ◌≤◌, None, Some, IfErr, IfOk, OnOk, length, replicate};
 ghost use Rattle.std.specs.Int.{to_le_bytes, w16};
 ghost use Rattle.std.specs.List.{flat_map};

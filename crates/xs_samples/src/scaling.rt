@@ -1,4 +1,4 @@
-//! A sample is scaled to the numbers that the transforms work on, and back.
+//! A sample is scaled to the numbers that the transforms work on, and back: docs/FORMAT.md, 'Samples, scaling and colour'.
 ghost use Rattle.std.specs.Prelude.{◌≡◌, ◌≤◌, ◌<◌, ◌^◌, ◌*◌, ◌-◌, ℤ, pos, ◌+ℤ◌, ◌-ℤ◌};
 ghost use Rattle.std.specs.Int.{int_shr};
 ghost use Rattle.xs_signal.specs.Lines.{IsBelow};

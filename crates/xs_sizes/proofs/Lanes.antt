@@ -1,7 +1,7 @@
 -- Lanes that a mask selects.
-use Rattle.std.proofs.Common.{◌≡◌, ℕ, ◌+◌, ◌<◌, ◌≤◌, List, length, map, get_or, refl, ap, ◌∙◌, arith}
-use Rattle.std.specs.Prelude.{Bool, true, false, nat_eq, replicate, if◌then◌else◌}
-use Rattle.std.proofs.lemmas.List.{get_or-replicate, length-replicate}
+use Rattle.std.proofs.Common.{◌≡◌, ℕ, ◌<◌, ◌≤◌, List, length, map, get_or, ap, ◌∙◌, arith}
+use Rattle.std.specs.Prelude.{Bool, false, nat_eq, replicate, if◌then◌else◌}
+use Rattle.std.proofs.lemmas.List.{get_or-replicate}
 use Rattle.std.proofs.lemmas.Simd.{get_or-sel_l, get_or-zip2, length-zip2, tops_compared}
 use mathlib.Core.Bool.{cond}
 use lib.Lanes.{sel_l, top, zip2}

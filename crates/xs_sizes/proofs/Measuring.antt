@@ -46,6 +46,11 @@ kept_is slice bands precinct coding none known there =
     subst (λ p. IsPrecinctKept coding.geometry.now (rows_held bands) p (get_or coding.counts.now.precincts.items (precinct - coding.counts.now.first) none)) here
     (known.counted.counted.precincts.each (precinct - coding.counts.now.first) none (omega (arith, place.0, place.1)))
 
+-- the same of what a call says is kept
+pub kept_seen : (slice : ℕ) (bands : List BandLines) (precinct : ℕ) (coding : Coding) (kept : PrecinctCounts) → ((none : PrecinctCounts) → kept ≡ get_or coding.counts.now.precincts.items (precinct - coding.counts.now.first) none) → IsCoding slice bands coding
+    → Contains (precincts_of coding.geometry.now slice) precinct → IsPrecinctKept coding.geometry.now (rows_held bands) precinct kept
+kept_seen slice bands precinct coding kept is known there = subst (IsPrecinctKept coding.geometry.now (rows_held bands) precinct) (sym (is kept)) (kept_is slice bands precinct coding kept known there)
+
 -- its packets have their lines in the slice
 pub packet_there : (slice : ℕ) (bands : List BandLines) (precinct number : ℕ) (coding : Coding) (kept : PrecinctCounts) (packet none : PacketBands) → IsGeometry coding.geometry.now → IsCoding slice bands coding
     → Contains (precincts_of coding.geometry.now slice) precinct → IsPrecinctKept coding.geometry.now (rows_held bands) precinct kept → number < length kept.packets.items → packet ≡ get_or kept.packets.items number none

@@ -1,10 +1,9 @@
 -- What a step from one candidate to another changes in a packet, a precinct and a slice.
-use Rattle.std.proofs.Common.{◌≡◌, ℕ, zero, suc, ◌+◌, ◌-◌, ◌*◌, ◌^◌, ◌<◌, ◌≤◌, List, [], ◌∷◌, length, drop, sum_by, get_or, refl, sym, ap, subst, ◌∙◌, arith, inl, inr}
+use Rattle.std.proofs.Common.{◌≡◌, ℕ, zero, suc, ◌+◌, ◌-◌, ◌<◌, ◌≤◌, List, length, sum_by, get_or, refl, sym, ap, subst, ◌∙◌, arith, inl, inr}
 use Rattle.std.specs.Prelude.{Bool, true, false, not, min, nat_eq, if◌then◌else◌}
 use Rattle.std.proofs.lemmas.Bool.{cases_eq, cases_lt, eqb-true}
-use Rattle.std.specs.List.{range_with_len, Contains}
+use Rattle.std.specs.List.{range_with_len}
 use Rattle.std.proofs.lemmas.List.Sums.{sum_by-cons}
-use Rattle.xs_lists.specs.Bits.{bytes_for}
 use Rattle.xs_layout.specs.Geometry.{PacketPlace}
 use Rattle.xs_layout.specs.Weighting.{truncation_of}
 use Rattle.xs_layout.specs.declared.Candidate.{Candidate}

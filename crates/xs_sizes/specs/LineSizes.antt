@@ -1,6 +1,5 @@
 -- What a line has at each truncation, as it is held, and the sizes at one of them.
-use Rattle.std.specs.Prelude.{◌≡◌, ℕ, ◌+◌, ◌-◌, ◌*◌, ◌^◌, ◌<◌, ◌≤◌, Bool, true, nat_eq, if◌then◌else◌, ℤ, List, [], ◌∷◌, ◌++◌, length, map, slice_index_or}
-use Rattle.xs_lists.specs.Spelling.{upto}
+use Rattle.std.specs.Prelude.{◌≡◌, ℕ, ◌+◌, ◌-◌, ◌*◌, ◌^◌, ◌<◌, ◌≤◌, Bool, true, nat_eq, if◌then◌else◌, ℤ, List, [], ◌∷◌, ◌++◌, length, slice_index_or}
 use Rattle.xs_bits.specs.Counts.{AreCounts}
 use Rattle.xs_layout.specs.declared.Quant.{Quant}
 use Rattle.xs_layout.specs.declared.Quant.TheVariants.{DeadZone, Uniform}

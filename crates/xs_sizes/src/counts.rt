@@ -62,6 +62,8 @@ impl SizeScratch {
     }
 
     /// The counts of the rows of a slice; without signs, for those that stand among the data alone.
+    // Never inlined, so that bench/functions.sh counts it under its own name.
+    #[inline(never)]
     pub fn count(
         &mut self,
         alloc: Global,

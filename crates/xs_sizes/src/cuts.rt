@@ -1,5 +1,5 @@
-//! The truncations of the bands.
-ghost use Rattle.std.specs.Prelude.{◌≡◌, ◌≤◌, length, All};
+//! The truncations of the bands: docs/FORMAT.md, 'Truncation, data and signs'.
+ghost use Rattle.std.specs.Prelude.{◌≤◌, length, All};
 ghost use Rattle.xs_sizes.specs.Measured.{AreCutsOf};
 
 use xs_geometry::truncation;

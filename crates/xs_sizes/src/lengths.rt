@@ -1,4 +1,4 @@
-//! The bits of a line's counts, at all truncations at once.
+//! The bits of a line's counts, at all truncations at once: docs/FORMAT.md, 'Bit-plane counts'.
 ghost use Rattle.std.specs.Prelude.{◌≡◌, ℕ, ◌+◌, ◌-◌, ◌*◌, ◌<◌, ◌≤◌, min, [], length, nat_eq, ◌^◌, if◌then◌else◌, slice_index_or, IfOk};
 ghost use Rattle.xs_bits.specs.Counts.{AreCounts};
 ghost use Rattle.xs_sizes.specs.Lengths.{AreCountSizes, AreLengths, AreMemberBits, length_of};

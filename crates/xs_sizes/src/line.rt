@@ -1,5 +1,5 @@
 //! The sizes of a line at each truncation.
-ghost use Rattle.std.specs.Prelude.{◌≡◌, ℕ, ◌<◌, ◌≤◌, ◌^◌, true, length, map, if◌then◌else◌, nat_eq, slice_index_or};
+ghost use Rattle.std.specs.Prelude.{◌≡◌, ℕ, ◌<◌, ◌≤◌, ◌^◌, true, length, map, if◌then◌else◌, slice_index_or};
 ghost use Rattle.xs_lists.specs.Spelling.{upto};
 ghost use Rattle.xs_signal.specs.Lines.{entries_of};
 ghost use Rattle.xs_rate.specs.Content.{planes_of};
@@ -62,7 +62,7 @@ fn sign_sizes(row: &[i32], planes: &[u8], kind: Quant, wanted: bool) -> [u32; 16
     }
 }
 
-/// The bits of the counts of a line in a mode, at each truncation.
+/// The bits of the counts of a line in a mode, at each truncation. docs/FORMAT.md, 'Bit-plane counts'.
 pub fn counts_of(line: &LineSizes, mode: u8) -> [u16; 16]
     requires { mode < 4 }
     ensures { (t : ℕ) → slice_index_or result t 0 ≡ slice_index_or (cut_sizes_at line.now t).counts mode 0 }
@@ -85,7 +85,7 @@ pub fn counts_at(line: &LineSizes, t: u8, mode: u8) -> u64
     u64::from(counts_of(line, mode)[t as usize])
 }
 
-/// The bits of the numbers of a line, without their signs where those stand apart.
+/// The bits of the numbers of a line, without their signs where those stand apart. docs/FORMAT.md, 'Truncation, data and signs'.
 pub fn numbers_at(line: &LineSizes, t: u8, signs_apart: bool) -> u64
     requires cut { t ≤ 15 }
     requires regular { AreRegular line.now }

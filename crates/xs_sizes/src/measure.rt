@@ -18,7 +18,7 @@ use xs_geometry::Geometry;
 use xs_layout::{Candidate, Quant};
 use xs_params::Weights;
 
-/// The bytes of a slice's header.
+/// The bytes of a slice's header: docs/FORMAT.md, 'Slice, precinct and packet'.
 const SLICE_HEAD: u64 = 6;
 
 /// What a precinct would have at this candidate, without writing it.
@@ -83,7 +83,7 @@ pub fn kept_of(counts: &SliceCounts, precinct: u32) -> &PrecinctCounts
     &counts.precincts[(precinct - counts.first) as usize]
 }
 
-/// The size of a precinct, with these truncations of the bands.
+/// The size of a precinct, with these truncations of the bands. Slice, precinct and packet: Lprc, Q, R, D.
 pub fn precinct_size(coding: &Coding, precinct: u32, cuts: &[u8; 30]) -> Measured
     requires coding { (slice : ℕ) × (bands : List BandLines) × IsCoding slice bands coding.now × Contains (precincts_of coding.now.geometry.now slice) precinct }
     requires cuts { All (λ t. t ≤ 15) cuts.now }

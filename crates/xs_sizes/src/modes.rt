@@ -1,4 +1,4 @@
-//! The modes of a band.
+//! The modes of a band: docs/FORMAT.md, 'Rate choice'.
 ghost use Rattle.std.specs.Prelude.{◌≡◌, ℕ, ◌+◌, ◌-◌, ◌<◌, ◌≤◌, ◌^◌, ◌∷◌, [], Bool, List, length, nat_le, if◌then◌else◌, slice_index_or};
 ghost use Rattle.std.specs.List.{range_with_len};
 ghost use Rattle.xs_geometry.specs.SliceLines.{BandLines, rows_held};

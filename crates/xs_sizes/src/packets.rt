@@ -14,7 +14,7 @@ use crate::precincts::{PacketBands, PrecinctCounts};
 use xs_geometry::Geometry;
 use xs_layout::Quant;
 
-/// The bytes of a packet's header.
+/// The bytes of a packet's header. Slice, precinct and packet: Dr, Ldat, Lcnt, Lsgn.
 const HEAD: u64 = 5;
 
 /// What the sizes of a slice are asked for: the counts of its rows, where the signs stand, and the quantiser.
@@ -117,7 +117,7 @@ fn bytes_for(bits: u64) -> u64
     (bits + 7) / 8
 }
 
-// The size of a packet whose parts have these bits.
+// The size of a packet whose parts have these bits. Slice, precinct and packet: Ldat, Lcnt, Lsgn.
 fn sized(bits: PartBits, signs_apart: bool) -> Measured
     requires few { (bits.flags < 2 ^ 37) × (bits.counts < 2 ^ 37) × (bits.numbers < 2 ^ 37) × (bits.signs < 2 ^ 37) }
     ensures bytes { result.bytes ≡ parts_size signs_apart bits }

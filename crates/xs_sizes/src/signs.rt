@@ -1,4 +1,4 @@
-//! The signs that stand apart, at all truncations at once.
+//! The signs that stand apart, at all truncations at once: docs/FORMAT.md, 'Truncation, data and signs'.
 ghost use Rattle.std.specs.Prelude.{◌≡◌, ℕ, ◌+◌, ◌-◌, ◌*◌, ◌<◌, ◌≤◌, ◌^◌, ◌&&◌, length, map, nat_lt, nat_le, count_by, slice_index_or, if◌then◌else◌, All};
 ghost use Rattle.xs_signal.specs.Quantiser.{quantised};
 ghost use Rattle.xs_lists.specs.Bits.{bit_of};

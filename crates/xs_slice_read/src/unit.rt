@@ -12,7 +12,7 @@ use xs_geometry::{Geometry, SliceRows};
 use xs_params::Header;
 use xs_params::markers::EOC;
 
-/// Reads bytes that are what is sent of a slice, 'Codestream layout', and nothing more. The answer is the slice's rows of
+/// Reads bytes that are what is sent of a slice, 'RTP packets and captures', and nothing more. The answer is the slice's rows of
 /// coefficients; or the first fault.
 pub fn read_unit(
     alloc: Global,

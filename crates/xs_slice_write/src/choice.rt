@@ -1,4 +1,4 @@
-//! The candidate of a slice.
+//! The candidate of a slice: docs/FORMAT.md, 'Rate choice'.
 ghost use Rattle.std.specs.Prelude.{◌≡◌, ◌<◌, ◌≤◌, length, find, All, List};
 ghost use Rattle.xs_layout.specs.declared.Weight.{Weight};
 ghost use Rattle.xs_params.specs.Geometry.{bands_of, coding_header, slice_count};
@@ -16,6 +16,8 @@ use xs_weights::{candidate, candidate_count, coarsest};
 
 /// The first candidate at which the slice is within its share and each length has room in its field; or, exactly where the
 /// slice is over its share at the coarsest, the bytes that it then has. At the coarsest each length has room. Takes no memory.
+// Never inlined, so that bench/functions.sh counts it under its own name.
+#[inline(never)]
 pub fn choose(
     geometry: &Geometry,
     slice: u32,

@@ -1,5 +1,5 @@
 //! The bytes of a slice.
-ghost use Rattle.std.specs.Prelude.{◌≡◌, ℕ, ◌+◌, ◌-◌, ◌<◌, ◌≤◌, ◌^◌, true, false, nat_eq, if◌then◌else◌, length, Err, IfOk, IfErr, All, List};
+ghost use Rattle.std.specs.Prelude.{◌≡◌, ℕ, ◌+◌, ◌-◌, ◌<◌, ◌≤◌, ◌^◌, true, false, nat_eq, if◌then◌else◌, Err, IfOk, IfErr, All, List};
 ghost use Rattle.std.specs.List.{Contains};
 ghost use Rattle.xs_layout.specs.declared.Weight.{Weight};
 ghost use Rattle.xs_params.specs.declared.header.Header.{Header};
@@ -184,7 +184,7 @@ fn write_counted(
     }
 }
 
-// The candidate of a slice, and its filler.
+// The candidate of a slice, and its filler: docs/FORMAT.md, 'Rate choice'.
 fn plan_slice(counted: &CountedSlice, wanted: &WantedSlice) -> Result<Plan, Budget>
     requires kept { (bands : List BandLines) × AreKeptOf counted.now.header.now wanted.now.slice bands counted.now.geometry.now counted.now.counts.now }
     requires slice { wanted.now.slice < slice_count counted.now.header.now }
@@ -304,7 +304,7 @@ fn filled_at(planned: &PlannedSlice, precinct: u32, end: u32) -> FilledPrecinct
     }
 }
 
-// The header of a slice.
+// The header of a slice. Slice, precinct and packet: the code, its length, the index.
 fn head_of(alloc: Global, slice: u32) -> Result<Octets, Memory>
     requires { slice < 2 ^ 16 }
     ensures { IfOk result (λ head. head ≡ slice_head slice) }

@@ -96,7 +96,7 @@ impl BandState {
         if self.mode >= 2 { (groups + 7) / 8 } else { 0 }
     }
 
-    /// Reads the flags and the counts of the next line. Raw counts have no flags.
+    /// Reads the flags and the counts of the next line. Raw counts have no flags. docs/FORMAT.md, 'Bit-plane counts'.
     pub fn read_counts(
         &mut self,
         form: CountForm,
@@ -126,7 +126,8 @@ impl BandState {
         Ok(())
     }
 
-    /// Reads the numbers of a line whose counts were read; their magnitudes, where the signs stand apart.
+    /// Reads the numbers of a line whose counts were read; their magnitudes, where the signs stand apart. docs/FORMAT.md,
+    /// 'Truncation, data and signs'.
     pub fn read_data(&mut self, apart: bool, input: &mut BitReader) -> Result<(), Ended>
         ensures values { OnOk result (self.new ≡ record self.old { values = numbers_in apart self.old.cut self.old.counts (left input.old) }) }
         ensures filled { OnOk result (HoldsNumbers apart self.new) }
@@ -143,7 +144,7 @@ impl BandState {
         )
     }
 
-    /// Reads the signs of a line whose magnitudes were read.
+    /// Reads the signs of a line whose magnitudes were read. docs/FORMAT.md, 'Truncation, data and signs'.
     pub fn read_signs(&mut self, input: &mut BitReader) -> Result<(), Ended>
         requires filled { HoldsNumbers true self.old }
         ensures values { OnOk result (self.new ≡ record self.old { values = signed_in self.old.cut self.old.counts self.old.values (left input.old) }) }

@@ -1,4 +1,4 @@
-// Fields of headers.
+// Fields of the headers of precincts and packets: docs/FORMAT.md, 'Slice, precinct and packet'.
 ghost use Rattle.std.specs.Prelude.{◌≡◌, ◌+◌, ◌*◌, ◌^◌, ◌<◌, ◌≤◌, length};
 ghost use Rattle.xs_bits.specs.Reading.{left};
 ghost use Rattle.xs_lists.specs.Bits.{bits_of_bytes};

@@ -1,4 +1,4 @@
-// The flags and the counts of the lines of a packet.
+// The flags and the counts of the lines of a packet: docs/FORMAT.md, 'Bit-plane counts'.
 ghost use Rattle.std.specs.Prelude.{◌≡◌, ℕ, ◌*◌, ◌^◌, ◌<◌, ◌≤◌, ◌++◌, [], true, false, ◌&&◌, if◌then◌else◌, Ok, Err, List, length, map, slice_index_or, IfOk, IfErr, OnOk, OnErr};
 ghost use Rattle.std.specs.List.{AllByRecursion, sum_by};
 ghost use Rattle.xs_bits.specs.Counts.{AreCounts};

@@ -1,4 +1,4 @@
-// The numbers and the signs of the lines of a packet, whose counts were read.
+// The numbers and the signs of the lines of a packet, whose counts were read: docs/FORMAT.md, 'Truncation, data and signs'.
 ghost use Rattle.std.specs.Prelude.{◌≡◌, ◌*◌, ◌^◌, ◌<◌, ◌≤◌, true, false, List, length, OnOk, OnErr};
 ghost use Rattle.std.specs.List.{AllByRecursion, sum_by};
 ghost use Rattle.xs_lists.specs.Bits.{bits_of_bytes};

@@ -75,7 +75,7 @@ fn read_head(bytes: &[u8], long: bool) -> Head
     }
 }
 
-// The parts of a packet of the bands' next lines.
+// The parts of a packet of the bands' next lines. Slice, precinct and packet: significance, counts, data, signs.
 fn places_of(header: &Header, head: Head, bands: &[BandState]) -> Places
     requires few { length bands.now ≤ 64 }
     requires head { (head.data_bytes < 2 ^ 20) × (head.count_bytes < 2 ^ 20) × (head.sign_bytes < 2 ^ 15) }

@@ -39,7 +39,7 @@ struct Place<'a> {
 
 /// Reads a precinct from the front of the bytes, and puts its lines into the rows. The answer is the number of its bytes, or its
 /// first fault. After a fault `above` and the precinct's rows are in any state. The content is what the slice's precincts before
-/// this one hold. FORMAT.md, 'Slice, precinct and packet'.
+/// this one hold. docs/FORMAT.md, 'Slice, precinct and packet'.
 pub fn read_precinct(
     alloc: Global,
     header: &Header,

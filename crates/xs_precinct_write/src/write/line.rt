@@ -174,7 +174,7 @@ impl OutgoingLine {
         }
     }
 
-    /// Writes them.
+    /// Writes them. docs/FORMAT.md, 'Bit-plane counts' and 'Truncation, data and signs'.
     pub fn write_part(&self, part: LinePart, apart: bool, out: &mut BitWriter)
         requires numbers { HasNumbers self.now }
         requires room { length (bits_in_part part apart self.now) ≤ out.old.spare }

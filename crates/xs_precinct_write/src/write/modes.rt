@@ -1,4 +1,4 @@
-// The modes of the bands of a precinct.
+// The modes of the bands of a precinct: docs/FORMAT.md, 'Rate choice'.
 ghost use Rattle.std.specs.Prelude.{◌≡◌, ℕ, ◌<◌, true, length, slice_index_or};
 ghost use Rattle.xs_params.specs.Geometry.{bands_of};
 ghost use Rattle.xs_sizes.specs.Counted.{AreCountsOf};

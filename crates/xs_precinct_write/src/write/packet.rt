@@ -52,7 +52,7 @@ fn part_bytes(packet: &PacketLines, part: LinePart) -> u32
     ((bits + 7) / 8) as u32
 }
 
-// Writes the header of a packet whose counts are coded.
+// Writes the header of a packet whose counts are coded. Slice, precinct and packet: Dr, Ldat, Lcnt, Lsgn.
 fn write_head(out: &mut BitWriter, numbers: u32, counts: u32, signs: u32)
     requires border { length out.old.bits % 8 ≡ 0 }
     requires fits { fields_fit (packet_fields false false numbers counts signs) ≡ true }
@@ -67,7 +67,7 @@ fn write_head(out: &mut BitWriter, numbers: u32, counts: u32, signs: u32)
     out.put(signs, 11);
 }
 
-// Writes a part, up to a byte.
+// Writes a part, up to a byte. Slice, precinct and packet: significance, counts, data, signs.
 fn write_part(out: &mut BitWriter, packet: &PacketLines, part: LinePart)
     requires border { length out.old.bits % 8 ≡ 0 }
     requires lines { ArePacketLines packet.now }

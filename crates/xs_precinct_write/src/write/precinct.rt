@@ -137,7 +137,7 @@ fn filled_precinct(
     with_head(alloc, at.candidate, lines, &body)
 }
 
-// The packets of a precinct, and its filler.
+// The packets of a precinct, and its filler: docs/FORMAT.md, 'Rate choice'.
 fn precinct_body(
     alloc: Global,
     at: &SliceAt,
@@ -218,7 +218,7 @@ fn send_packet(
     Ok(())
 }
 
-// A precinct with this body: the header before it.
+// A precinct with this body: the header before it. Slice, precinct and packet: Lprc, Q, R, D.
 fn with_head(
     alloc: Global,
     candidate: Candidate,

@@ -1,15 +1,15 @@
-// The counts and the numbers of a row of coefficients at a truncation.
-ghost use Rattle.std.specs.Prelude.{◌≡◌, ◌+◌, ◌-◌, ◌*◌, ◌/◌, ◌<◌, ◌≤◌, ◌^◌, length, map, max, pos, slice_index_or, slice_set, All};
-ghost use Rattle.std.specs.Int.{is_negative};
+// The counts and the numbers of a row of coefficients at a truncation: docs/FORMAT.md, 'Rate choice' and 'Quantisers'.
+ghost use Rattle.std.specs.Prelude.{◌≡◌, ◌+◌, ◌*◌, ◌<◌, ◌≤◌, ◌^◌, ◌∷◌, [], length, map, max, pos, slice_index_or, slice_set, unsigned_abs, All};
 ghost use Rattle.xs_bits.specs.Counts.{AreCounts};
 ghost use Rattle.xs_signal.specs.Lines.{entries_of};
 ghost use Rattle.xs_signal.specs.Quantiser.{sent, with_sign_of};
+ghost use Rattle.xs_spelling.specs.Data.{columns_of};
 ghost use Rattle.xs_rate.specs.Content.{planes_of};
 ghost use Rattle.xs_rate.specs.Laws.{IsSmallRow};
 ghost use Rattle.xs_planes.specs.Numbers.{AreNumbers, put_four};
 ghost use Rattle.xs_precinct_write.specs.Outgoing.{counts_cut, values_sent};
 
-use xs_groups::{count_planes, magnitudes_at};
+use xs_groups::count_planes;
 use xs_layout::Quant;
 use xs_quant::quantise;
 
@@ -43,7 +43,7 @@ pub fn quantise_row(kind: Quant, t: u8, counts: &[u8], row: &[i32], values: &mut
     }
 }
 
-// The numbers of a code group.
+// The numbers of a code group. All four coefficients are read before a number is put, so that they are quantised at once.
 fn quantise_group(kind: Quant, t: u8, count: u8, row: &[i32], group: usize, values: &mut [i32])
     requires small { IsSmallRow (entries_of row.now) }
     requires count { count ≡ max (planes_of (entries_of row.now) group) t }
@@ -52,31 +52,74 @@ fn quantise_group(kind: Quant, t: u8, count: u8, row: &[i32], group: usize, valu
     requires there { 4 * group + 4 ≤ length values.old }
     ensures { values.new ≡ put_four values.old (4 * group) (λ i. sent kind (planes_of (entries_of row.now) group) t (entries_of row.now (4 * group + i))) }
 {
-    let [a, b, c, d] = quantise(kind, magnitudes_at(row, group), count, t);
     let first = 4 * group;
-    put_number(values, first, a, row);
-    put_number(values, first + 1, b, row);
-    put_number(values, first + 2, c, row);
-    put_number(values, first + 3, d, row);
+    if count == t {
+        put_zeros(values, first);
+        return;
+    }
+    let coefficients = coefficients_at(row, group);
+    let [e, f, g, h] = quantise(kind, magnitudes_of(coefficients), count, t);
+    let [a, b, c, d] = coefficients;
+    put_number(values, first, e, a);
+    put_number(values, first + 1, f, b);
+    put_number(values, first + 2, g, c);
+    put_number(values, first + 3, h, d);
 }
 
-// Puts a number of this magnitude at a column, with the sign of the row there.
-fn put_number(values: &mut [i32], column: usize, magnitude: u32, row: &[i32])
+// Puts the numbers of a code group of which no plane is sent.
+fn put_zeros(values: &mut [i32], first: usize)
+    requires there { first + 4 ≤ length values.old }
+    ensures { values.new ≡ put_four values.old first (λ i. pos 0) }
+{
+    values[first] = 0;
+    values[first + 1] = 0;
+    values[first + 2] = 0;
+    values[first + 3] = 0;
+}
+
+// The coefficients of a code group; past the row there are zeros.
+fn coefficients_at(row: &[i32], group: usize) -> [i32; 4]
+    requires few { group < 2 ^ 32 }
+    ensures { result ≡ map (entries_of row.now) (columns_of group) }
+{
+    let first = 4 * group;
+    if first + 4 <= row.len() {
+        return [row[first], row[first + 1], row[first + 2], row[first + 3]];
+    }
+    [
+        coefficient(row, first),
+        coefficient(row, first + 1),
+        coefficient(row, first + 2),
+        coefficient(row, first + 3),
+    ]
+}
+
+// The magnitudes of four coefficients.
+fn magnitudes_of(numbers: [i32; 4]) -> [u32; 4]
+    ensures { result ≡ unsigned_abs (slice_index_or numbers 0 (pos 0)) ∷ unsigned_abs (slice_index_or numbers 1 (pos 0)) ∷ unsigned_abs (slice_index_or numbers 2 (pos 0)) ∷ unsigned_abs (slice_index_or numbers 3 (pos 0)) ∷ [] }
+{
+    let [a, b, c, d] = numbers;
+    [
+        a.unsigned_abs(),
+        b.unsigned_abs(),
+        c.unsigned_abs(),
+        d.unsigned_abs(),
+    ]
+}
+
+// The coefficient at a column; 0 past the row.
+fn coefficient(row: &[i32], column: usize) -> i32
+    ensures { result ≡ entries_of row.now column }
+{
+    if column < row.len() { row[column] } else { 0 }
+}
+
+// Puts a number of this magnitude at a column, with the sign of a coefficient.
+fn put_number(values: &mut [i32], column: usize, magnitude: u32, coefficient: i32)
     requires there { column < length values.old }
     requires small { magnitude < 2 ^ 15 }
-    ensures { values.new ≡ slice_set values.old column (with_sign_of (entries_of row.now column) magnitude) }
+    ensures { values.new ≡ slice_set values.old column (with_sign_of coefficient magnitude) }
 {
     let number = magnitude as i32;
-    values[column] = if is_negative_at(row, column) {
-        -number
-    } else {
-        number
-    };
-}
-
-// Whether the coefficient at a column is below zero; past the row there is none.
-fn is_negative_at(row: &[i32], column: usize) -> bool
-    ensures { result ≡ is_negative (entries_of row.now column) }
-{
-    column < row.len() && row[column] < 0
+    values[column] = if coefficient < 0 { -number } else { number };
 }

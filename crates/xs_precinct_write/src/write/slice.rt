@@ -22,7 +22,7 @@ pub struct SliceAt<'a> {
     pub candidate: Candidate,
 }
 
-// How many planes are cut off a band.
+// How many planes are cut off a band. Truncation, data and signs: T.
 fn cut_of(at: &SliceAt, band: u32) -> u8
     requires { band < length at.now.header.now.weights }
     ensures cut { result ≡ truncation_of at.now.candidate.q at.now.candidate.r (weight_of at.now.header.now band) }

@@ -1,4 +1,4 @@
-use Rattle.std.proofs.Common.{◌*◌, ◌<◌, ◌≤◌, [], length, arith}
+use Rattle.std.proofs.Common.{◌*◌, ◌<◌, [], length, arith}
 use Rattle.xs_sizes.proofs.Coded.{summed_start, summed_more, summed_all, summed_kept}
 use Rattle.xs_sizes.proofs.lengths.count_sizes.Goals as goal
 

@@ -1,4 +1,4 @@
-use Rattle.std.proofs.Common.{◌≡◌, ℕ, ◌+◌, ◌-◌, ◌*◌, ◌<◌, ◌≤◌, [], length, slice_index_or, sym, ap, ◌∙◌, arith}
+use Rattle.std.proofs.Common.{◌≡◌, ℕ, ◌+◌, ◌*◌, ◌<◌, ◌≤◌, [], length, slice_index_or, sym, ap, ◌∙◌, arith}
 use Rattle.xs_sizes.specs.Lengths.{length_of}
 use Rattle.xs_sizes.proofs.Coded.{so_far_start, so_far_more, so_far_done, length_few}
 use Rattle.xs_sizes.proofs.lengths.member_bits.Goals as goal

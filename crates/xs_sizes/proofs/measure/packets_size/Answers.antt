@@ -1,14 +1,13 @@
-use Rattle.std.proofs.Common.{◌+◌, ◌<◌, ◌≤◌, length, drop, sym, ap, subst, ◌∙◌, arith}
+use Rattle.std.proofs.Common.{◌+◌, ◌<◌, ◌≤◌, length, drop, sym, ap, ◌∙◌, arith}
 use Rattle.std.specs.Prelude.{◌&&◌}
 use Rattle.std.specs.List.{list_all, sum_by}
 use Rattle.std.proofs.lemmas.List.{drop_all}
 use Rattle.xs_params.specs.Geometry.{packets_of}
 use Rattle.xs_geometry.specs.Places.{no_place, packet_at}
 use Rattle.xs_geometry.specs.SliceLines.{rows_held}
-use Rattle.xs_sizes.specs.Precincts.{IsPrecinctKept}
 use Rattle.xs_sizes.specs.Measured.{header_in, packet_fits_at, packet_size_at}
 use Rattle.xs_sizes.proofs.PacketSizes.{few_packets}
-use Rattle.xs_sizes.proofs.Measuring.{kept_there, kept_is, packet_there, sum_rest, all_rest, all_more, and_true}
+use Rattle.xs_sizes.proofs.Measuring.{kept_there, kept_seen, packet_there, sum_rest, all_rest, all_more, and_true}
 use Rattle.xs_sizes.proofs.measure.packets_size.Goals as goal
 
 pub kept_of-kept-requires-clause-from : goal.kept_of-kept-requires-clause-from
@@ -21,8 +20,7 @@ pub packet_size-packet-requires-clause-packet : goal.packet_size-packet-requires
 packet_size-packet-requires-clause-packet c =
     let g = c.args.coding.now.geometry.now in
     let at = c.requires.coding in
-    let kept : IsPrecinctKept g (rows_held at.1) c.args.precinct c.kept_of-kept.result.now =
-    subst (IsPrecinctKept g (rows_held at.1) c.args.precinct) (sym (c.kept_of-kept.ensures c.kept_of-kept.result.now)) (kept_is at.0 at.1 c.args.precinct c.args.coding.now c.kept_of-kept.result.now at.2 at.3) in
+    let kept = kept_seen at.0 at.1 c.args.precinct c.args.coding.now c.kept_of-kept.result.now c.kept_of-kept.ensures at.2 at.3 in
     let inside : c.packets.number < length c.kept_of-kept.result.now.packets.items = omega (arith, c.packets-test.true, c.len-number-end.ensures) in
     (at.0, at.1, c.args.precinct, packet_at g c.args.precinct c.packets.number, packet_there at.0 at.1 c.args.precinct c.packets.number c.args.coding.now c.kept_of-kept.result.now c.index.result.now _ c.bands-bands.ensures.ranges at.2 at.3 kept inside c.index.ensures)
 
@@ -30,8 +28,7 @@ pub packet_size-packet-requires-clause-few : goal.packet_size-packet-requires-cl
 packet_size-packet-requires-clause-few c =
     let g = c.args.coding.now.geometry.now in
     let at = c.requires.coding in
-    let kept : IsPrecinctKept g (rows_held at.1) c.args.precinct c.kept_of-kept.result.now =
-    subst (IsPrecinctKept g (rows_held at.1) c.args.precinct) (sym (c.kept_of-kept.ensures c.kept_of-kept.result.now)) (kept_is at.0 at.1 c.args.precinct c.args.coding.now c.kept_of-kept.result.now at.2 at.3) in
+    let kept = kept_seen at.0 at.1 c.args.precinct c.args.coding.now c.kept_of-kept.result.now c.kept_of-kept.ensures at.2 at.3 in
     let inside : c.packets.number < length c.kept_of-kept.result.now.packets.items = omega (arith, c.packets-test.true, c.len-number-end.ensures) in
     let is = packet_there at.0 at.1 c.args.precinct c.packets.number c.args.coding.now c.kept_of-kept.result.now c.index.result.now _ c.bands-bands.ensures.ranges at.2 at.3 kept inside c.index.ensures in
     omega (arith, is.at.there, c.bands-bands.ensures.few, c.bands-bands.ensures.count)
@@ -40,8 +37,7 @@ pub overflow_add-bytes : goal.overflow_add-bytes
 overflow_add-bytes c =
     let g = c.args.coding.now.geometry.now in
     let at = c.requires.coding in
-    let kept : IsPrecinctKept g (rows_held at.1) c.args.precinct c.kept_of-kept.result.now =
-    subst (IsPrecinctKept g (rows_held at.1) c.args.precinct) (sym (c.kept_of-kept.ensures c.kept_of-kept.result.now)) (kept_is at.0 at.1 c.args.precinct c.args.coding.now c.kept_of-kept.result.now at.2 at.3) in
+    let kept = kept_seen at.0 at.1 c.args.precinct c.args.coding.now c.kept_of-kept.result.now c.kept_of-kept.ensures at.2 at.3 in
     omega (arith, c.packets-test.true, c.len-number-end.ensures, kept.packets.count, few_packets g c.args.precinct c.bands-bands.ensures.ranges, c.packets.invariant.few, c.packet_size-packet.ensures.few)
 
 pub packets-preserved : goal.packets-preserved
@@ -51,8 +47,7 @@ packets-preserved c = record {
       let g = c.args.coding.now.geometry.now in
       let h = header_in c.args.coding.now weights in
       let rows = rows_held bands in
-      let kept : IsPrecinctKept g rows c.args.precinct c.kept_of-kept.result.now =
-      subst (IsPrecinctKept g rows c.args.precinct) (sym (c.kept_of-kept.ensures c.kept_of-kept.result.now)) (kept_is slice bands c.args.precinct c.args.coding.now c.kept_of-kept.result.now coded.coded there) in
+      let kept = kept_seen slice bands c.args.precinct c.args.coding.now c.kept_of-kept.result.now c.kept_of-kept.ensures coded.coded there in
       let inside : c.packets.number < length c.kept_of-kept.result.now.packets.items = omega (arith, c.packets-test.true, c.len-number-end.ensures) in
       let is = packet_there slice bands c.args.precinct c.packets.number c.args.coding.now c.kept_of-kept.result.now c.index.result.now _ c.bands-bands.ensures.ranges coded.coded there kept inside c.index.ensures in
       let own = c.packet_size-packet.ensures.bytes slice bands weights candidate c.args.precinct (packet_at g c.args.precinct c.packets.number) coded is in
@@ -62,8 +57,7 @@ packets-preserved c = record {
       let g = c.args.coding.now.geometry.now in
       let h = header_in c.args.coding.now weights in
       let rows = rows_held bands in
-      let kept : IsPrecinctKept g rows c.args.precinct c.kept_of-kept.result.now =
-      subst (IsPrecinctKept g rows c.args.precinct) (sym (c.kept_of-kept.ensures c.kept_of-kept.result.now)) (kept_is slice bands c.args.precinct c.args.coding.now c.kept_of-kept.result.now coded.coded there) in
+      let kept = kept_seen slice bands c.args.precinct c.args.coding.now c.kept_of-kept.result.now c.kept_of-kept.ensures coded.coded there in
       let inside : c.packets.number < length c.kept_of-kept.result.now.packets.items = omega (arith, c.packets-test.true, c.len-number-end.ensures) in
       let is = packet_there slice bands c.args.precinct c.packets.number c.args.coding.now c.kept_of-kept.result.now c.index.result.now _ c.bands-bands.ensures.ranges coded.coded there kept inside c.index.ensures in
       let own = c.packet_size-packet.ensures.fits slice bands weights candidate c.args.precinct (packet_at g c.args.precinct c.packets.number) coded is in
@@ -76,8 +70,7 @@ packets-preserved c = record {
 pub returns-clause-bytes : goal.returns-clause-bytes
 returns-clause-bytes c slice bands weights candidate coded there =
     let g = c.args.coding.now.geometry.now in
-    let kept : IsPrecinctKept g (rows_held bands) c.args.precinct c.kept_of-kept.result.now =
-    subst (IsPrecinctKept g (rows_held bands) c.args.precinct) (sym (c.kept_of-kept.ensures c.kept_of-kept.result.now)) (kept_is slice bands c.args.precinct c.args.coding.now c.kept_of-kept.result.now coded.coded there) in
+    let kept = kept_seen slice bands c.args.precinct c.args.coding.now c.kept_of-kept.result.now c.kept_of-kept.ensures coded.coded there in
     let past : length (packets_of g c.args.precinct) ≤ c.packets.number = omega (arith, c.packets-test.false, c.len-number-end.ensures, kept.packets.count) in
     let none = ap (sum_by (packet_size_at (header_in c.args.coding.now weights) (rows_held bands) candidate c.args.precinct)) (drop_all c.packets.number (packets_of g c.args.precinct) past) in
     omega (arith, none, c.packets.invariant.sizes slice bands weights candidate coded there)
@@ -85,8 +78,7 @@ returns-clause-bytes c slice bands weights candidate coded there =
 pub returns-clause-fits : goal.returns-clause-fits
 returns-clause-fits c slice bands weights candidate coded there =
     let g = c.args.coding.now.geometry.now in
-    let kept : IsPrecinctKept g (rows_held bands) c.args.precinct c.kept_of-kept.result.now =
-    subst (IsPrecinctKept g (rows_held bands) c.args.precinct) (sym (c.kept_of-kept.ensures c.kept_of-kept.result.now)) (kept_is slice bands c.args.precinct c.args.coding.now c.kept_of-kept.result.now coded.coded there) in
+    let kept = kept_seen slice bands c.args.precinct c.args.coding.now c.kept_of-kept.result.now c.kept_of-kept.ensures coded.coded there in
     let past : length (packets_of g c.args.precinct) ≤ c.packets.number = omega (arith, c.packets-test.false, c.len-number-end.ensures, kept.packets.count) in
     let none = ap (list_all (packet_fits_at (header_in c.args.coding.now weights) (rows_held bands) candidate c.args.precinct)) (drop_all c.packets.number (packets_of g c.args.precinct) past) in
     sym (and_true c.packets.fits_fields) ∙ ap (λ b. c.packets.fits_fields && b) (sym none) ∙ c.packets.invariant.fits slice bands weights candidate coded there
@@ -95,6 +87,5 @@ pub returns-clause-few : goal.returns-clause-few
 returns-clause-few c =
     let g = c.args.coding.now.geometry.now in
     let at = c.requires.coding in
-    let kept : IsPrecinctKept g (rows_held at.1) c.args.precinct c.kept_of-kept.result.now =
-    subst (IsPrecinctKept g (rows_held at.1) c.args.precinct) (sym (c.kept_of-kept.ensures c.kept_of-kept.result.now)) (kept_is at.0 at.1 c.args.precinct c.args.coding.now c.kept_of-kept.result.now at.2 at.3) in
+    let kept = kept_seen at.0 at.1 c.args.precinct c.args.coding.now c.kept_of-kept.result.now c.kept_of-kept.ensures at.2 at.3 in
     omega (arith, c.packets.auto.number-end, c.len-number-end.ensures, kept.packets.count, few_packets g c.args.precinct c.bands-bands.ensures.ranges, c.packets.invariant.few)

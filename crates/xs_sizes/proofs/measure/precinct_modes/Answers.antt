@@ -1,10 +1,10 @@
-use Rattle.std.proofs.Common.{◌≡◌, ◌<◌, ◌≤◌, [], length, slice_index_or, sym, ap, subst, ◌∙◌, arith}
+use Rattle.std.proofs.Common.{◌≡◌, ◌<◌, ◌≤◌, [], length, slice_index_or, ap, ◌∙◌, arith}
 use Rattle.std.proofs.lemmas.List.{length-set}
 use Rattle.xs_geometry.specs.SliceLines.{rows_held}
 use Rattle.xs_rate.specs.Chosen.{content_at, mode_of}
-use Rattle.xs_sizes.specs.Precincts.{IsPrecinctKept, mode_at}
+use Rattle.xs_sizes.specs.Precincts.{mode_at}
 use Rattle.xs_sizes.specs.Measured.{header_in}
-use Rattle.xs_sizes.proofs.Measuring.{kept_there, kept_is}
+use Rattle.xs_sizes.proofs.Measuring.{kept_there, kept_seen}
 use Rattle.xs_sizes.proofs.Sets.{done_more}
 use Rattle.xs_sizes.proofs.measure.precinct_modes.Goals as goal
 
@@ -18,8 +18,7 @@ pub mode_of-requires-clause-there : goal.mode_of-requires-clause-there
 mode_of-requires-clause-there c =
     let g = c.args.coding.now.geometry.now in
     let at = c.requires.coding in
-    let kept : IsPrecinctKept g (rows_held at.1) c.args.precinct c.kept_of-kept.result.now =
-    subst (IsPrecinctKept g (rows_held at.1) c.args.precinct) (sym (c.kept_of-kept.ensures c.kept_of-kept.result.now)) (kept_is at.0 at.1 c.args.precinct c.args.coding.now c.kept_of-kept.result.now at.2 at.3) in
+    let kept = kept_seen at.0 at.1 c.args.precinct c.args.coding.now c.kept_of-kept.result.now c.kept_of-kept.ensures at.2 at.3 in
     omega (arith, c.bands-test.true, c.bands-band-end.ensures.count, kept.modes.count)
 
 pub bands-preserved : goal.bands-preserved
@@ -32,8 +31,7 @@ bands-preserved c =
           let g = c.args.coding.now.geometry.now in
           let h = header_in c.args.coding.now weights in
           let rows = rows_held bands in
-          let kept : IsPrecinctKept g rows c.args.precinct c.kept_of-kept.result.now =
-          subst (IsPrecinctKept g rows c.args.precinct) (sym (c.kept_of-kept.ensures c.kept_of-kept.result.now)) (kept_is slice bands c.args.precinct c.args.coding.now c.kept_of-kept.result.now coded.coded there) in
+          let kept = kept_seen slice bands c.args.precinct c.args.coding.now c.kept_of-kept.result.now c.kept_of-kept.ensures coded.coded there in
           let inside : band < length c.kept_of-kept.result.now.modes.items = omega (arith, c.bands-test.true, c.bands-band-end.ensures.count, kept.modes.count) in
           let few : slice_index_or cuts band 0 ≤ 15 = c.requires.cuts band 0 (omega (arith, c.bands-test.true, c.bands-band-end.ensures.few, c.told-cuts)) in
           let own : c.mode_of.result ≡ mode_of h (content_at h rows candidate) c.args.precinct band =

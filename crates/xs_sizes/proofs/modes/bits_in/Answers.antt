@@ -1,4 +1,4 @@
-use Rattle.std.proofs.Common.{◌+◌, ◌-◌, ◌*◌, ◌<◌, ◌≤◌, length, sum_by, sym, ap, ◌∙◌, arith}
+use Rattle.std.proofs.Common.{◌+◌, ◌-◌, ◌<◌, ◌≤◌, length, sum_by, ap, arith}
 use Rattle.xs_spelling.specs.Sizes.{count_size, flag_size}
 use Rattle.xs_geometry.specs.SliceLines.{rows_held}
 use Rattle.xs_lists.proofs.Ranges.{range_end, sum_first}

@@ -1,4 +1,4 @@
-use Rattle.std.proofs.Common.{◌≡◌, ◌+◌, arith}
+use Rattle.std.proofs.Common.{◌≡◌, arith}
 use Rattle.std.specs.Prelude.{false}
 use Rattle.xs_sizes.proofs.Stepping.{untouched}
 use Rattle.xs_sizes.proofs.steps.packet_shift.Goals as goal

@@ -1,13 +1,12 @@
-use Rattle.std.proofs.Common.{◌≡◌, ◌+◌, ◌*◌, ◌/◌, ◌<◌, ◌≤◌, length, drop, refl, sym, ap, subst, ◌∙◌, arith}
+use Rattle.std.proofs.Common.{◌+◌, ◌*◌, ◌/◌, ◌<◌, ◌≤◌, length, ap, arith}
 use Rattle.std.specs.List.{sum_by}
 use Rattle.std.proofs.lemmas.List.{drop_all}
 use Rattle.xs_params.specs.Geometry.{bands_of, packets_of}
 use Rattle.xs_geometry.specs.Places.{no_place, packet_at}
 use Rattle.xs_geometry.specs.SliceLines.{rows_held}
-use Rattle.xs_sizes.specs.Precincts.{IsPrecinctKept}
 use Rattle.xs_sizes.specs.Measured.{header_in, packet_size_at}
 use Rattle.xs_sizes.proofs.PacketSizes.{few_packets}
-use Rattle.xs_sizes.proofs.Measuring.{kept_there, kept_is, packet_there, sum_rest}
+use Rattle.xs_sizes.proofs.Measuring.{kept_there, kept_seen, packet_there, sum_rest}
 use Rattle.xs_sizes.proofs.Stepping.{shift_more, shift_done, shift_behind}
 use Rattle.xs_sizes.proofs.steps.precinct_shift.Goals as goal
 
@@ -21,8 +20,7 @@ pub packet_shift-own-requires-clause-packet : goal.packet_shift-own-requires-cla
 packet_shift-own-requires-clause-packet c =
     let g = c.args.coding.now.geometry.now in
     let at = c.requires.coding in
-    let kept : IsPrecinctKept g (rows_held at.1) c.args.precinct c.kept_of-kept.result.now =
-    subst (IsPrecinctKept g (rows_held at.1) c.args.precinct) (sym (c.kept_of-kept.ensures c.kept_of-kept.result.now)) (kept_is at.0 at.1 c.args.precinct c.args.coding.now c.kept_of-kept.result.now at.2 at.3) in
+    let kept = kept_seen at.0 at.1 c.args.precinct c.args.coding.now c.kept_of-kept.result.now c.kept_of-kept.ensures at.2 at.3 in
     let inside : c.packets.number < length c.kept_of-kept.result.now.packets.items = omega (arith, c.packets-test.true, c.len-number-end.ensures) in
     (at.0, at.1, c.args.precinct, packet_at g c.args.precinct c.packets.number, packet_there at.0 at.1 c.args.precinct c.packets.number c.args.coding.now c.kept_of-kept.result.now c.index.result.now _ c.bands-bands.ensures.ranges at.2 at.3 kept inside c.index.ensures)
 
@@ -30,8 +28,7 @@ pub packet_shift-own-requires-clause-few : goal.packet_shift-own-requires-clause
 packet_shift-own-requires-clause-few c =
     let g = c.args.coding.now.geometry.now in
     let at = c.requires.coding in
-    let kept : IsPrecinctKept g (rows_held at.1) c.args.precinct c.kept_of-kept.result.now =
-    subst (IsPrecinctKept g (rows_held at.1) c.args.precinct) (sym (c.kept_of-kept.ensures c.kept_of-kept.result.now)) (kept_is at.0 at.1 c.args.precinct c.args.coding.now c.kept_of-kept.result.now at.2 at.3) in
+    let kept = kept_seen at.0 at.1 c.args.precinct c.args.coding.now c.kept_of-kept.result.now c.kept_of-kept.ensures at.2 at.3 in
     let inside : c.packets.number < length c.kept_of-kept.result.now.packets.items = omega (arith, c.packets-test.true, c.len-number-end.ensures) in
     let is = packet_there at.0 at.1 c.args.precinct c.packets.number c.args.coding.now c.kept_of-kept.result.now c.index.result.now _ c.bands-bands.ensures.ranges at.2 at.3 kept inside c.index.ensures in
     omega (arith, is.at.there, c.bands-bands.ensures.few, c.bands-bands.ensures.count)
@@ -44,8 +41,7 @@ packets-preserved c = record {
       let g = c.args.coding.now.geometry.now in
       let h = header_in c.args.coding.now weights in
       let rows = rows_held bands in
-      let kept : IsPrecinctKept g rows c.args.precinct c.kept_of-kept.result.now =
-      subst (IsPrecinctKept g rows c.args.precinct) (sym (c.kept_of-kept.ensures c.kept_of-kept.result.now)) (kept_is slice bands c.args.precinct c.args.coding.now c.kept_of-kept.result.now step.before.coded there) in
+      let kept = kept_seen slice bands c.args.precinct c.args.coding.now c.kept_of-kept.result.now c.kept_of-kept.ensures step.before.coded there in
       let inside : c.packets.number < length c.kept_of-kept.result.now.packets.items = omega (arith, c.packets-test.true, c.len-number-end.ensures) in
       let is = packet_there slice bands c.args.precinct c.packets.number c.args.coding.now c.kept_of-kept.result.now c.index.result.now _ c.bands-bands.ensures.ranges step.before.coded there kept inside c.index.ensures in
       let place : c.packets.number < length (packets_of g c.args.precinct) = omega (arith, inside, kept.packets.count) in
@@ -60,8 +56,7 @@ pub returns-clause-shift : goal.returns-clause-shift
 returns-clause-shift c slice bands weights old new step there =
     let g = c.args.coding.now.geometry.now in
     let h = header_in c.args.coding.now weights in
-    let kept : IsPrecinctKept g (rows_held bands) c.args.precinct c.kept_of-kept.result.now =
-    subst (IsPrecinctKept g (rows_held bands) c.args.precinct) (sym (c.kept_of-kept.ensures c.kept_of-kept.result.now)) (kept_is slice bands c.args.precinct c.args.coding.now c.kept_of-kept.result.now step.before.coded there) in
+    let kept = kept_seen slice bands c.args.precinct c.args.coding.now c.kept_of-kept.result.now c.kept_of-kept.ensures step.before.coded there in
     let past : length (packets_of g c.args.precinct) ≤ c.packets.number = omega (arith, c.packets-test.false, c.len-number-end.ensures, kept.packets.count) in
     let none = drop_all c.packets.number (packets_of g c.args.precinct) past in
     shift_behind ((40 + 2 * bands_of g + 7) / 8) _ _ c.packets.shift
@@ -72,8 +67,7 @@ pub returns-clause-few : goal.returns-clause-few
 returns-clause-few c =
     let g = c.args.coding.now.geometry.now in
     let at = c.requires.coding in
-    let kept : IsPrecinctKept g (rows_held at.1) c.args.precinct c.kept_of-kept.result.now =
-    subst (IsPrecinctKept g (rows_held at.1) c.args.precinct) (sym (c.kept_of-kept.ensures c.kept_of-kept.result.now)) (kept_is at.0 at.1 c.args.precinct c.args.coding.now c.kept_of-kept.result.now at.2 at.3) in
+    let kept = kept_seen at.0 at.1 c.args.precinct c.args.coding.now c.kept_of-kept.result.now c.kept_of-kept.ensures at.2 at.3 in
     let few = few_packets g c.args.precinct c.bands-bands.ensures.ranges in
     (omega (arith, c.packets.auto.number-end, c.len-number-end.ensures, kept.packets.count, few, c.packets.invariant.removed), omega (arith, c.packets.auto.number-end, c.len-number-end.ensures, kept.packets.count, few, c.packets.invariant.added))
 
@@ -81,14 +75,12 @@ pub both_shifts-shift-requires-clause-removed : goal.both_shifts-shift-requires-
 both_shifts-shift-requires-clause-removed c =
     let g = c.args.coding.now.geometry.now in
     let at = c.requires.coding in
-    let kept : IsPrecinctKept g (rows_held at.1) c.args.precinct c.kept_of-kept.result.now =
-    subst (IsPrecinctKept g (rows_held at.1) c.args.precinct) (sym (c.kept_of-kept.ensures c.kept_of-kept.result.now)) (kept_is at.0 at.1 c.args.precinct c.args.coding.now c.kept_of-kept.result.now at.2 at.3) in
+    let kept = kept_seen at.0 at.1 c.args.precinct c.args.coding.now c.kept_of-kept.result.now c.kept_of-kept.ensures at.2 at.3 in
     omega (arith, c.packets-test.true, c.len-number-end.ensures, kept.packets.count, few_packets g c.args.precinct c.bands-bands.ensures.ranges, c.packets.invariant.removed, c.packet_shift-own.ensures.few)
 
 pub both_shifts-shift-requires-clause-added : goal.both_shifts-shift-requires-clause-added
 both_shifts-shift-requires-clause-added c =
     let g = c.args.coding.now.geometry.now in
     let at = c.requires.coding in
-    let kept : IsPrecinctKept g (rows_held at.1) c.args.precinct c.kept_of-kept.result.now =
-    subst (IsPrecinctKept g (rows_held at.1) c.args.precinct) (sym (c.kept_of-kept.ensures c.kept_of-kept.result.now)) (kept_is at.0 at.1 c.args.precinct c.args.coding.now c.kept_of-kept.result.now at.2 at.3) in
+    let kept = kept_seen at.0 at.1 c.args.precinct c.args.coding.now c.kept_of-kept.result.now c.kept_of-kept.ensures at.2 at.3 in
     omega (arith, c.packets-test.true, c.len-number-end.ensures, kept.packets.count, few_packets g c.args.precinct c.bands-bands.ensures.ranges, c.packets.invariant.added, c.packet_shift-own.ensures.few)

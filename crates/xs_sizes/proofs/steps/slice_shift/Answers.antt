@@ -1,5 +1,4 @@
-use Rattle.std.proofs.Common.{◌+◌, ◌-◌, sum_by, ap, arith}
-use Rattle.std.specs.List.{range_with_len}
+use Rattle.std.proofs.Common.{sum_by, ap, arith}
 use Rattle.xs_geometry.specs.SliceLines.{rows_held}
 use Rattle.xs_lists.proofs.Ranges.{range_end, sum_first}
 use Rattle.xs_rate.specs.Choice.{precinct_size_at}

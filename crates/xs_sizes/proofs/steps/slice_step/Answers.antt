@@ -1,4 +1,4 @@
-use Rattle.std.proofs.Common.{◌≡◌, ◌+◌, ◌≤◌, arith}
+use Rattle.std.proofs.Common.{arith}
 use Rattle.xs_sizes.proofs.steps.slice_step.Goals as goal
 
 pub slice_shift-shift-requires-clause-coding : goal.slice_shift-shift-requires-clause-coding

@@ -1,11 +1,10 @@
-use Rattle.std.proofs.Common.{◌≡◌, ◌<◌, ◌≤◌, length, List, get_or, refl, sym, ap, subst, ◌∙◌, arith}
-use Rattle.std.specs.Prelude.{true, false, find, nat_le, ◌&&◌, Some}
+use Rattle.std.proofs.Common.{◌≡◌, ◌<◌, length, List, get_or, refl, sym, ap, subst, ◌∙◌, arith}
+use Rattle.std.specs.Prelude.{true, false, find, Some}
 use Rattle.std.specs.Option.{IsSome}
 use Rattle.std.proofs.lemmas.Option.{slice_get-get_or, get_or_from_slice_get}
 use Rattle.xs_layout.specs.Candidates.{candidates_of, finest}
-use Rattle.xs_layout.specs.declared.Candidate.{Candidate}
 use Rattle.xs_geometry.specs.SliceLines.{BandLines, rows_held}
-use Rattle.xs_rate.specs.Chosen.{fields_fit_at, fits_at, size_at}
+use Rattle.xs_rate.specs.Chosen.{fits_at, size_at}
 use Rattle.xs_sizes.specs.Measured.{IsCodedAt, IsCoding, header_in}
 use Rattle.xs_sizes.specs.Stepped.{IsStep}
 use Rattle.xs_slice_write.proofs.Found.{find_more, find_here, over_fits}
