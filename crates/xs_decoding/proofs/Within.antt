@@ -86,7 +86,7 @@ band_same f h rows other component number width height deep same there inside si
     ap f (same (band_number h number component) row column (number_below h number component deep there inside)
     (omega (arith, above, size.rows_are, height_of_number h number component there)) (omega (arith, within, size.columns_are, width_of_number h number component there)))
 
-hl_size : (s : Split) (level : ℕ) → s.down ≤ s.across → level < s.across → IsBandSize s (first_number s (level + 1)) (high_count (low_count_at s.width level)) (rows_at s (level + 1))
+pub hl_size : (s : Split) (level : ℕ) → s.down ≤ s.across → level < s.across → IsBandSize s (first_number s (level + 1)) (high_count (low_count_at s.width level)) (rows_at s (level + 1))
 hl_size s level deep inside =
     let next : suc level ≡ level + 1 = omega arith in
     elim (cases_lt level s.down) [
@@ -102,19 +102,19 @@ hl_size s level deep inside =
 side_number : (s : Split) (level side : ℕ) → s.down ≤ s.across → level < s.down → first_number s (level + 1) + side ≡ s.across - s.down + 1 + (3 * (s.down - suc level) + side)
 side_number s level side deep less = omega (arith, first_deep s (level + 1) (omega (arith, less)))
 
-lh_size : (s : Split) (level : ℕ) → s.down ≤ s.across → level < s.down
+pub lh_size : (s : Split) (level : ℕ) → s.down ≤ s.across → level < s.down
     → IsBandSize s (first_number s (level + 1) + 1) (low_count (low_count_at s.width level)) (high_count (low_count_at s.height level))
 lh_size s level deep less =
     deep_size s (first_number s (level + 1) + 1) (3 * (s.down - suc level) + 1) level 1 (low_count (low_count_at s.width level)) (high_count (low_count_at s.height level)) deep
     (side_number s level 1 deep less) refl less (omega arith) refl refl
 
-hh_size : (s : Split) (level : ℕ) → s.down ≤ s.across → level < s.down
+pub hh_size : (s : Split) (level : ℕ) → s.down ≤ s.across → level < s.down
     → IsBandSize s (first_number s (level + 1) + 2) (high_count (low_count_at s.width level)) (high_count (low_count_at s.height level))
 hh_size s level deep less =
     deep_size s (first_number s (level + 1) + 2) (3 * (s.down - suc level) + 2) level 2 (high_count (low_count_at s.width level)) (high_count (low_count_at s.height level)) deep
     (side_number s level 2 deep less) refl less (omega arith) refl refl
 
-hl_room : (s : Split) (level : ℕ) → s.down ≤ s.across → level < s.across → first_number s (level + 1) < band_count s
+pub hl_room : (s : Split) (level : ℕ) → s.down ≤ s.across → level < s.across → first_number s (level + 1) < band_count s
 hl_room s level deep inside =
     elim (cases_lt level s.down) [
       | inl less ↦ omega (arith, first_next s level, room_deep s level deep less)

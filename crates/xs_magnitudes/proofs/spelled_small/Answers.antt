@@ -1,0 +1,5 @@
+use Rattle.xs_magnitudes.proofs.Small as laws
+use Rattle.xs_magnitudes.proofs.spelled_small.Goals as goal
+
+pub returns : goal.returns
+returns c = laws.spelled_small

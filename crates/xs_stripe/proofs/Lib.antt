@@ -1,0 +1,9 @@
+pub mod Places
+pub mod Bands
+pub mod Fresh
+pub mod Steps
+pub mod Turned
+pub mod Edged
+pub mod Beside
+pub mod Reach
+pub mod Filled

@@ -1,0 +1,13 @@
+use Rattle.std.proofs.Common.{◌≡◌, ◌*◌, ◌^◌}
+use Rattle.xs_stripe.specs.Source.{ShowRowsOf}
+use Rattle.xs_stripe.proofs.Steps.{AreMoved}
+use Rattle.xs_stripe.proofs.lines.Lines.begin_joiners.Given as goal
+
+abbrev pub invariant-components : goal.invariant-components
+invariant-components g l = record {
+  header : l.self.header ≡ l.fn.self.header;
+  first : l.self.first ≡ l.fn.self.first;
+  given : l.self.given ≡ l.fn.self.given;
+  colours : l.self.colours ≡ l.fn.self.colours;
+  moved : AreMoved l.fn.self.header.now l.first (2 ^ l.fn.self.header.now.nly * l.first) l.component (λ coefficients _ _. ShowRowsOf coefficients (g.S.CoefficientRows.rows l.rows)) l.fn.self.joiners.items l.self.joiners.items;
+}

@@ -1,0 +1,9 @@
+pub mod Source
+pub mod Raised
+pub mod Colours
+pub mod Joined
+pub mod Lines
+pub mod Block
+pub mod Edges
+pub mod Near
+pub mod Stripe
