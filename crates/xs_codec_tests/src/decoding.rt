@@ -1,10 +1,13 @@
 // Pictures of coefficients that are made by a rule. The expected samples come from bench/checksums.py.
-ghost use Rattle.std.specs.Prelude.{◌≡◌, ℕ, ◌+◌, ◌*◌, ◌<◌, ◌≤◌, length, IfOk};
+ghost use Rattle.std.specs.Prelude.{◌≡◌, ℕ, ◌+◌, ◌*◌, ◌^◌, ◌<◌, ◌≤◌, length, unsigned_abs, IfOk};
 ghost use Rattle.xs_params.specs.declared.header.Header.{Header};
 ghost use Rattle.xs_params.specs.Accepted.{IsAccepted};
 ghost use Rattle.xs_params.specs.Geometry.{bands_of, precinct_count, slice_count};
-ghost use Rattle.xs_geometry.specs.SliceLines.{AreLinesOf, HasLine};
+ghost use Rattle.xs_geometry.specs.SliceLines.{HasLine};
 ghost use Rattle.xs_picture.specs.Coefs.{AreCoefs};
+ghost use Rattle.xs_rate.specs.Laws.{IsSmallRow};
+ghost use Rattle.xs_signal.specs.Lines.{entries_of};
+ghost use Rattle.xs_codec_tests.specs.Made.{IsMade};
 
 use std::alloc::Global;
 use std::test::Fail;
@@ -15,14 +18,18 @@ use xs_picture::{StreamCoefs, decode_coefs};
 
 /// The rules that coefficients are made by.
 #[derive(Clone, Copy, Debug, PartialEq, Eq)]
-enum Rule {
+pub(crate) enum Rule {
     /// One brighter with each column and each line of the first band, and nothing in the others.
     Ramp,
     /// Numbers of both signs, some of which lead to samples that are too great or too small.
     Mixed,
+    /// Rows of two slices of four lines of the first band: 128, and 136 in the second.
+    Beside,
 }
 
-fn number(rule: Rule, band: u32, line: u32, column: u32) -> i32 {
+fn number(rule: Rule, band: u32, line: u32, column: u32) -> i32
+    ensures small { unsigned_abs result < 2 ^ 15 }
+{
     match rule {
         Rule::Ramp if band == 0 => (16 * (column % 1000 + line % 1000)) as i32,
         Rule::Ramp => 0,
@@ -31,6 +38,19 @@ fn number(rule: Rule, band: u32, line: u32, column: u32) -> i32 {
             let step = (sum + line % 1000 * (column % 1000)) % 31;
             step as i32 * 160 - 2400
         }
+        Rule::Beside => number_beside(band, line),
+    }
+}
+
+// The first slice ends in rows that are brought to 0 by the first row of the second.
+fn number_beside(band: u32, line: u32) -> i32
+    ensures small { unsigned_abs result < 2 ^ 15 }
+{
+    match (band, line) {
+        (0, 3) => -16,
+        (0, 4) => 64,
+        (2, 3) | (5, 7) => -64,
+        _ => 0,
     }
 }
 
@@ -113,14 +133,14 @@ fn coefs(alloc: Global, header: Header, rule: Rule) -> Result<StreamCoefs, Memor
     Ok(coefs)
 }
 
-fn slice_rows(
+pub(crate) fn slice_rows(
     alloc: Global,
     geometry: &Geometry,
     slice: u32,
     rule: Rule,
 ) -> Result<SliceRows, Memory>
     requires { slice < slice_count geometry.now }
-    ensures { IfOk result (AreLinesOf geometry.now slice) }
+    ensures { IfOk result (IsMade geometry.now slice) }
 {
     let mut rows = SliceRows::blank(alloc, geometry, slice)?;
     let (first, end) = geometry.slice_precincts(slice);
@@ -141,8 +161,8 @@ fn fill_precinct(
     requires there { precinct < precinct_count geometry.now }
     requires from { slice * geometry.now.hsl ≤ precinct }
     requires to { precinct < (slice + 1) * geometry.now.hsl }
-    requires lines { AreLinesOf geometry.now slice rows.old }
-    ensures { AreLinesOf geometry.now slice rows.new }
+    requires lines { IsMade geometry.now slice rows.old }
+    ensures { IsMade geometry.now slice rows.new }
 {
     for band in 0..geometry.bands() {
         fill_band(alloc, geometry, slice, precinct, band, rule, rows)?;
@@ -163,8 +183,8 @@ fn fill_band(
     requires from { slice * geometry.now.hsl ≤ precinct }
     requires to { precinct < (slice + 1) * geometry.now.hsl }
     requires band { band < bands_of geometry.now }
-    requires lines { AreLinesOf geometry.now slice rows.old }
-    ensures { AreLinesOf geometry.now slice rows.new }
+    requires lines { IsMade geometry.now slice rows.old }
+    ensures { IsMade geometry.now slice rows.new }
 {
     let (from, to) = geometry.lines(precinct, band);
     for line in from..to {
@@ -181,7 +201,7 @@ fn fill_row(
     rows: &mut SliceRows,
 ) -> Result<(), Memory>
     requires { HasLine rows.old band line }
-    ensures { (h : Header) (slice : ℕ) → AreLinesOf h slice rows.old → AreLinesOf h slice rows.new }
+    ensures { (h : Header) (slice : ℕ) → IsMade h slice rows.old → IsMade h slice rows.new }
 {
     let count = rows.row(band, line).len();
     let values = numbers(alloc, rule, band, line, count)?;
@@ -196,7 +216,8 @@ fn numbers(
     line: u32,
     count: usize,
 ) -> Result<Vec<i32>, Memory>
-    ensures { IfOk result (λ list. length list.items ≡ count) }
+    ensures count { IfOk result (λ list. length list.items ≡ count) }
+    ensures small { IfOk result (λ list. IsSmallRow (entries_of list.items)) }
 {
     let mut list = Vec::new(alloc);
     for column in 0..count {

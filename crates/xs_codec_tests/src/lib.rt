@@ -1,4 +1,4 @@
-//! Tests of the codec: headers, lines, pictures and codestreams that are decoded, and sizes at the limits.
+//! Tests of the codec: headers, lines, pictures, stripes and codestreams that are decoded, and sizes at the limits.
 #![tactic(auto)]
 
 #[cfg(test)]
@@ -9,3 +9,5 @@ mod headers;
 mod limits;
 #[cfg(test)]
 mod streams;
+#[cfg(test)]
+mod stripe;

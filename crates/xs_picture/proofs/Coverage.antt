@@ -1,7 +1,9 @@
 -- Each line of a band is one of the lines of a slice.
-use Rattle.std.proofs.Common.{◌≡◌, ℕ, zero, suc, ◌+◌, ◌-◌, ◌*◌, ◌/◌, ◌%◌, ◌^◌, ◌<◌, ◌≤◌, List, [], length, get_or, refl, ap, arith, inl, inr, Bool, true, false}
+use Rattle.std.proofs.Common.{◌≡◌, ℕ, zero, suc, ◌+◌, ◌-◌, ◌*◌, ◌/◌, ◌%◌, ◌^◌, ◌<◌, ◌≤◌, List, [], length, get_or, refl, ap, ◌∙◌, arith, inl, inr, Bool, true, false}
 use Rattle.std.proofs.Math.Nat.{mul-le-mul_right, mul_assoc, le-div_iff_mul-le}
 use Rattle.std.proofs.lemmas.Bool.{cases_lt}
+use Rattle.std.proofs.lemmas.List.{get_or_past}
+use Rattle.std.specs.Prelude.{ℤ}
 use Rattle.std.proofs.lemmas.Nat.{pow_pos}
 use Rattle.xs_layout.specs.declared.Format.{Format}
 use Rattle.xs_layout.specs.declared.Format.TheVariants.{Mono, C422, C444}
@@ -9,10 +11,11 @@ use Rattle.xs_layout.specs.Geometry.{BandType, band_types, components_of, side_s
 use Rattle.xs_params.specs.declared.header.Header.{Header}
 use Rattle.xs_params.specs.Geometry.{bands_of, band_type_of, band_height_of, band_width_of, precinct_count, precinct_lines, slice_count}
 use Rattle.xs_params.specs.Accepted.{IsAccepted}
-use Rattle.xs_geometry.specs.SliceLines.{AreLinesOf, BandLines, HasLine, row_at, slice_height}
+use Rattle.xs_geometry.specs.SliceLines.{AreLinesOf, BandLines, HasLine, lines_at, no_lines, row_at, slice_height}
 use Rattle.xs_geometry.specs.Sides.{deep_side}
 use Rattle.xs_geometry.proofs.Types.{wide_type, deep_type}
-use Rattle.xs_picture.specs.Coefs.{Coefs, AreCoefs}
+use Rattle.xs_stripe.specs.Source.{IsBandRow}
+use Rattle.xs_picture.specs.Coefs.{Coefs, AreCoefs, row_in}
 
 -- ---- heights
 
@@ -118,3 +121,43 @@ pub row_width : (c : Coefs) (band line : ℕ) → AreCoefs c → band < bands_of
     → length (row_at (get_or c.slices (line / slice_height c.header band) []) band line) ≡ band_width_of c.header band
 row_width c band line are inside less =
     (are.lines (line / slice_height c.header band) (slice_there c.header band line are.accepted inside less)).width band line (line_there c band line are inside less)
+
+-- a row that has numbers stands in its slice
+pub known_there : (c : Coefs) (band line : ℕ) → AreCoefs c → 0 < length (row_in c.header c.slices band line)
+    → (band < bands_of c.header) × HasLine (get_or c.slices (line / slice_height c.header band) []) band line
+known_there c band line are some = elim (cases_lt slice (length c.slices)) [
+  | inl less ↦ elim (cases_lt band (bands_of c.header)) [
+    | inl inside ↦ elim (cases_lt (line - (lines_at bands band).first) (length (lines_at bands band).rows)) [
+      | inl there ↦ (inside, here (are.lines slice (omega (arith, less, are.count))) inside there)
+      | inr past ↦ absurd (omega (arith, some, ap length (get_or_past (lines_at bands band).rows (line - (lines_at bands band).first) [] past)))
+    ]
+    | inr past ↦ absurd (omega (arith, some, nothing bands (omega (arith, past, (are.lines slice (omega (arith, less, are.count))).count))))
+  ]
+  | inr past ↦ absurd (omega (arith, some, ap (λ b. length (row_at b band line)) (get_or_past c.slices slice [] past), nothing [] (zero_least band)))
+]
+  where
+    slice : ℕ
+    slice = line / slice_height c.header band
+
+    bands : List BandLines
+    bands = get_or c.slices slice []
+
+    zero_least : (n : ℕ) → 0 ≤ n
+    zero_least n = omega arith
+
+    -- a band that is not there has no rows
+    nothing : (b : List BandLines) → length b ≤ band → length {A = ℤ} (row_at b band line) ≡ 0
+    nothing b past = ap (λ (l : BandLines). length {A = ℤ} (get_or l.rows (line - l.first) [])) (get_or_past b band no_lines past) ∙ ap (length {A = ℤ}) (get_or_past {X = List ℤ} [] line [] (zero_least line))
+
+    here : AreLinesOf c.header slice bands → band < bands_of c.header → line - (lines_at bands band).first < length (lines_at bands band).rows → HasLine bands band line
+    here lines inside there =
+        let from : slice * slice_height c.header band ≤ line = omega arith in
+        let first : (lines_at bands band).first ≤ line = omega (arith, lines.first band inside, from) in
+        record { band_there = omega (arith, inside, lines.count); from = first; line_there = omega (arith, there, first) }
+
+-- the rows that are there are those of the bands
+pub row_of_band : (c : Coefs) (band line : ℕ) → AreCoefs c → band < bands_of c.header → line < band_height_of c.header band → IsBandRow (band_width_of c.header band) (row_in c.header c.slices band line)
+row_of_band c band line are inside less = record {
+  wide = row_width c band line are inside less;
+  small = are.small (line / slice_height c.header band) (slice_there c.header band line are.accepted inside less) band line (line_there c band line are inside less);
+}

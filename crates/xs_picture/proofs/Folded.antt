@@ -7,15 +7,15 @@ use Rattle.std.proofs.lemmas.List.FromFn.{length-map-range_with_len, get_or-map-
 use Rattle.xs_lists.specs.Spelling.{upto}
 use Rattle.xs_layout.specs.declared.Format.{Format}
 use Rattle.xs_layout.specs.declared.Format.TheVariants.{Mono, C422, C444}
-use Rattle.xs_layout.specs.Geometry.{components_of}
+use Rattle.xs_layout.specs.Geometry.{BandType, components_of}
 use Rattle.xs_params.specs.declared.header.Header.{Header}
 use Rattle.xs_params.specs.Accepted.{IsAccepted}
 use Rattle.xs_params.specs.Picture.{Picture, sample_at}
 use Rattle.xs_params.specs.Geometry.{bands_of, band_component, band_type_of, band_width_of, band_height_of}
 use Rattle.xs_signal.specs.Fold.{fold}
 use Rattle.xs_signal.specs.Lines.{entries_of}
-use Rattle.xs_signal.specs.Picture.{analysed, coefficients_of}
-use Rattle.xs_signal.specs.Wavelet.{band_plane}
+use Rattle.xs_signal.specs.Picture.{analysed, coefficients_of, each_entry}
+use Rattle.xs_signal.specs.Wavelet.{Bands, band_plane}
 use Rattle.xs_signal.proofs.Magnitudes.{fold_fits}
 use Rattle.xs_geometry.specs.SliceLines.{BandLines, AreLinesOf, HasLine, ShowRows, lines_at, row_at, rows_held}
 use Rattle.xs_geometry.specs.Laws.{IsWritten}
@@ -27,11 +27,9 @@ use Rattle.xs_rate.specs.Laws.{AreSmall}
 use Rattle.xs_wave.specs.Planes.{plane_of, HasSize}
 use Rattle.xs_wave.specs.Bands.{band_count}
 use Rattle.xs_wave.proofs.Types.{all_counted}
-use Rattle.xs_picture.specs.Decoding.{component_split}
 use Rattle.xs_splitter.specs.declared.splitter.Splitter.{Splitter}
-use Rattle.xs_picture.specs.Analysed.{AreBandsOf, ArePictureRows, IsBandFolded, folded_row, folded_rows, plane_of_band}
+use Rattle.xs_picture.specs.Analysed.{AreBandsOf, ArePictureRows, IsBandFolded, component_split, folded_row, folded_rows, plane_of_band}
 use Rattle.xs_picture.specs.Local.{SameInSlice}
-use Rattle.xs_picture.proofs.Filled.{each_plane}
 
 -- ---- bands
 
@@ -48,6 +46,18 @@ type_below C444 band types inside = omega (arith, inside)
 
 pub component_there : (h : Header) (band : ℕ) → band_component h band < components_of h.shape.format
 component_there h band = component_below h.shape.format band
+
+-- a band of numbers that were each changed has each number changed
+pub each_plane : (f : ℤ → ℤ) (b : Bands) (type : BandType) (row column : ℕ) → band_plane (each_entry f b) type row column ≡ f (band_plane b type row column)
+each_plane f b type row column = cases type.high_down type.high_across
+  where
+    cases : (down across : Bool)
+        → (if down then (if across then (each_entry f b).hh type.across else (each_entry f b).lh type.across) else (if across then (each_entry f b).hl type.across else (each_entry f b).ll)) row column
+        ≡ f ((if down then (if across then b.hh type.across else b.lh type.across) else (if across then b.hl type.across else b.ll)) row column)
+    cases true true = refl
+    cases true false = refl
+    cases false true = refl
+    cases false false = refl
 
 number_there : (h : Header) (band : ℕ) → h.nly ≤ h.nlx → band < bands_of h → band / components_of h.shape.format < band_count (component_split h (band_component h band))
 number_there h band deep inside =

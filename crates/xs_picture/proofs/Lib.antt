@@ -1,7 +1,4 @@
 pub mod Bounds
-pub mod Held
-pub mod Filled
-pub mod Entries
 pub mod BandTypes
 pub mod Analysed
 pub mod Folded
@@ -9,8 +6,6 @@ pub mod Coverage
 pub mod Local
 pub mod Encoded
 pub mod Placed
-pub mod Turned
-pub mod Decoded
 pub mod SlicesRead
 pub mod StreamsRead
 pub mod Results

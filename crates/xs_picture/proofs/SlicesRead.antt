@@ -24,6 +24,8 @@ use Rattle.xs_grammar.proofs.OneSlice.{truncation_at}
 use Rattle.xs_reading.specs.Rows.{dequantised_rows}
 use Rattle.xs_reading.specs.Slice.{slice_end, slice_fault}
 use Rattle.xs_reading.specs.Stream.{slices_end, slice_start}
+use Rattle.xs_magnitudes.specs.Small.{HaveSmallRows}
+use Rattle.xs_magnitudes.proofs.Small.{spelled_small}
 use Rattle.xs_slice_read.specs.Read.{IsFrontRead}
 use Rattle.xs_picture.specs.Coefs.{rows_of_slices}
 use Rattle.xs_picture.specs.StreamRead.{AreSlicesRead}
@@ -130,6 +132,7 @@ none_read h bytes start slices none = record {
   spelled = refl;
   number = ap length none;
   lines = λ slice there. absurd (omega (arith, there));
+  small = λ slice there. absurd (omega (arith, there));
   shown = λ band line column inside there within. absurd (omega (arith, within));
 }
 
@@ -146,6 +149,7 @@ more_read h bytes start slice slices rows place n accepted so read = record {
   spelled = subst (λ l. SpellsEach (IsSlice h now) l (so.front ++ part)) (sym (upto_more slice)) (each-more (IsSlice h now) (upto slice) slice so.front part earlier last);
   number = omega (arith, length-append slices (rows ∷ []), so.number);
   lines = lines;
+  small = small;
   shown = shown;
 }
   where
@@ -183,6 +187,16 @@ more_read h bytes start slice slices rows place n accepted so read = record {
           | inr past ↦
               let same : slice ≡ k = omega (arith, there, past) in
               subst (λ j. AreLinesOf h j (get_or (slices ++ rows ∷ []) j [])) same (subst (AreLinesOf h slice) (sym seam) read.lines)
+        ]
+
+    small : (k : ℕ) → k < slice + 1 → HaveSmallRows (get_or (slices ++ rows ∷ []) k [])
+    small k there =
+        elim (cases_lt k slice) [
+          | inl less ↦ subst HaveSmallRows (sym (kept k less)) (so.small k less)
+          | inr past ↦
+              let same : slice ≡ k = omega (arith, there, past) in
+              subst (λ j. HaveSmallRows (get_or (slices ++ rows ∷ []) j [])) same
+              (subst HaveSmallRows (sym seam) (spelled_small h read.content slice part rows accepted read.spelled.1 read.lines read.shown))
         ]
 
     shown : (band line column : ℕ) → band < bands_of h → line < band_height_of h band → line / slice_height h band < slice + 1

@@ -160,7 +160,7 @@ stream_read c bytes start place end head enough so none ended next stated = reco
   header = head.header;
   content = so.content;
   spelled = (enough, stream);
-  whole = record { accepted = head.spelled.0.1.accepted; count = so.number; lines = so.lines };
+  whole = record { accepted = head.spelled.0.1.accepted; count = so.number; lines = so.lines; small = so.small };
   shown = λ band line column inside there. so.shown band line column inside there (slice_there h band line head.spelled.0.1.accepted inside there);
 }
   where

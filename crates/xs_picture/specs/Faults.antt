@@ -1,4 +1,4 @@
--- The first fault of a codestream, and where it ends, as functions of the bytes: 'Codestream layout'.
+-- The first fault of a codestream, and where it ends, as functions of the bytes: 'Codestream layout' and 'Slice, precinct and packet'.
 use Rattle.std.specs.Prelude.{◌≢◌, ◌≡◌, ℕ, ◌+◌, Option, Some, List, [], ◌∷◌, length}
 use Rattle.std.specs.Option.{option_map}
 use Rattle.xs_lists.specs.First.{first_some}

@@ -1,5 +1,4 @@
 pub mod Coefs
-pub mod Decoding
 pub mod Analysed
 pub mod Encoded
 pub mod Faults

@@ -14,6 +14,7 @@ use Rattle.xs_grammar.specs.Slice.{IsSlice}
 use Rattle.xs_grammar.specs.Codestream.{IsCodestreamFront}
 use Rattle.xs_geometry.specs.SliceLines.{BandLines, slice_height, AreLinesOf}
 use Rattle.xs_markers.specs.Reading.{header_at}
+use Rattle.xs_magnitudes.specs.Small.{HaveSmallRows}
 use Rattle.xs_reading.specs.Rows.{dequantised_rows}
 use Rattle.xs_reading.specs.Slice.{is_same, slice_fault}
 use Rattle.xs_reading.specs.Stream.{slice_start}
@@ -31,6 +32,7 @@ pub record AreSlicesRead (h : Header) (bytes : List ℕ) (start count : ℕ) (sl
   pub spelled : SpellsEach (IsSlice h content) (upto count) front
   pub number : length slices ≡ count
   pub lines : (slice : ℕ) → slice < count → AreLinesOf h slice (slice_index_or slices slice [])
+  pub small : (slice : ℕ) → slice < count → HaveSmallRows (slice_index_or slices slice [])
   pub shown : (band line column : ℕ) → band < bands_of h → line < band_height_of h band → line / slice_height h band < count
       → rows_of_slices h slices band line column ≡ dequantised_rows h content band line column
 

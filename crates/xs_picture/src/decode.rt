@@ -1,11 +1,9 @@
 // Decoding: the bytes of a codestream become its picture.
 
-mod band_planes;
 mod coefs;
-mod colours;
 mod decoder;
 mod reader;
-mod samples;
+mod rows;
 
 pub use coefs::StreamCoefs;
 pub use decoder::{decode_coefs, decode_picture};

@@ -6,4 +6,7 @@ mod colours;
 mod encoder;
 mod folding;
 
-pub use encoder::encode_picture;
+pub use analysis::{Component, component_splitter, scale_line};
+pub use bands::band_row;
+pub use colours::ColourRows;
+pub use encoder::{assemble_stream, encode_picture};

@@ -9,7 +9,10 @@ mod decode;
 mod encode;
 
 pub use decode::{StreamCoefs, decode_coefs, decode_picture, last_slice, read_stream};
-pub use encode::encode_picture;
+pub use encode::{
+    ColourRows, Component, assemble_stream, band_row, component_splitter, encode_picture,
+    scale_line,
+};
 pub use xs_faults::{Budget, SliceRefusal, StreamFault};
 
 /// Bytes have no fault exactly where they begin with a codestream.

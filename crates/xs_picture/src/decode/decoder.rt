@@ -1,20 +1,21 @@
 //! The picture of a codestream.
-ghost use Rattle.std.specs.Prelude.{◌≡◌, ◌≢◌, ◌<◌, ◌^◌, Some, true, false, length, IfOk, IfErr, OnOk};
-ghost use Rattle.xs_decoding.specs.Decoded.{IsPictureOf};
+ghost use Rattle.std.specs.Prelude.{◌≡◌, ◌≢◌, ◌+◌, ◌*◌, ◌<◌, ◌≤◌, ◌⊎◌, ◌^◌, ℕ, Some, length, IfOk, IfErr};
+ghost use Rattle.xs_params.specs.Picture.{IsPicture, IsPlace, IsRow, sample_at, width_of};
+ghost use Rattle.xs_decoding.specs.Decoded.{IsPictureOf, decoded_sample};
+ghost use Rattle.xs_rate.specs.Coefficients.{Rows};
+ghost use Rattle.xs_stripe.specs.Lines.{AreLines, HoldRows};
 ghost use Rattle.xs_picture.specs.Coefs.{AreCoefs, rows_of_slices};
-ghost use Rattle.xs_picture.specs.Decoding.{AreDecoded};
 ghost use Rattle.xs_picture.specs.Faults.{stream_fault};
 ghost use Rattle.xs_picture.specs.StreamRead.{IsPictureRead};
 
-use crate::decode::band_planes::{component_plane, components};
 use crate::decode::coefs::StreamCoefs;
-use crate::decode::colours::inverse_rct_planes;
 use crate::decode::reader::read_stream;
-use crate::decode::samples::{known_picture, put_plane};
+use crate::decode::rows::StreamRows;
 use std::alloc::Global;
 use xs_faults::StreamFault;
 use xs_io::Memory;
-use xs_params::Planes;
+use xs_params::{Planes, component_width};
+use xs_stripe::Lines;
 
 /// The picture of the codestream at the front of the bytes, and how many bytes it has; or its first fault.
 pub fn decode_picture(alloc: Global, bytes: &[u8]) -> Result<(Planes, usize), StreamFault>
@@ -27,53 +28,70 @@ pub fn decode_picture(alloc: Global, bytes: &[u8]) -> Result<(Planes, usize), St
     Ok((picture, size))
 }
 
-/// The picture of coefficients, whatever header they have.
+/// The picture of coefficients, whatever header they have. It is made line by line.
 pub fn decode_coefs(alloc: Global, coefs: &StreamCoefs) -> Result<Planes, Memory>
     requires coefs { AreCoefs coefs.now }
     ensures decoded { IfOk result (IsPictureOf coefs.now.header (rows_of_slices coefs.now.header coefs.now.slices)) }
 {
     let header = coefs.header();
     let mut picture = Planes::blank(alloc, header.shape)?;
-    if header.colour {
-        put_colours(alloc, coefs, &mut picture)?;
-    } else {
-        put_components(alloc, coefs, &mut picture)?;
+    let mut samples = zeros(alloc, header.shape.width)?;
+    let mut lines = Lines::new(alloc, header)?;
+    let rows = StreamRows::of(coefs);
+    'lines: for line in 0..header.shape.height {
+        lines.step(&rows);
+        put_line(&lines, line, samples.as_mut_slice(), &mut picture);
     }
     known_picture(&picture);
     Ok(picture)
 }
 
-// Writes each component by itself.
-fn put_components(alloc: Global, coefs: &StreamCoefs, picture: &mut Planes) -> Result<(), Memory>
-    requires coefs { AreCoefs coefs.now }
-    requires plain { coefs.now.header.colour ≡ false }
-    requires shape { picture.old.shape ≡ coefs.now.header.shape }
-    ensures shape { picture.new.shape ≡ picture.old.shape }
-    ensures decoded { OnOk result (AreDecoded coefs.now picture.new) }
+// So many zeros.
+fn zeros(alloc: Global, count: u32) -> Result<Vec<u16>, Memory>
+    ensures { IfOk result (λ list. length list.items ≡ count) }
 {
-    let header = coefs.header();
-    for component in 0..components(header.shape.format) {
-        let plane = component_plane(alloc, coefs, component)?;
-        put_plane(alloc, header, component, &plane, picture)?;
-    }
-    Ok(())
+    vec![in alloc; 0; count as usize].map_err(|_| Memory)
 }
 
-// Writes red, green and blue of luma and colour differences.
-fn put_colours(alloc: Global, coefs: &StreamCoefs, picture: &mut Planes) -> Result<(), Memory>
-    requires coefs { AreCoefs coefs.now }
-    requires coloured { coefs.now.header.colour ≡ true }
-    requires shape { picture.old.shape ≡ coefs.now.header.shape }
+// Writes the samples of the line that was made last, in each component, by a row that is filled again.
+fn put_line(lines: &Lines<'_>, line: u32, samples: &mut [u16], picture: &mut Planes)
+    requires state { AreLines lines.now }
+    requires begun { 2 ^ lines.now.header.now.nly * lines.now.first ≤ line }
+    requires last { lines.now.given ≡ line + 1 }
+    requires line { line < picture.old.shape.height }
+    requires shape { picture.old.shape ≡ lines.now.header.now.shape }
+    requires width { length samples.old ≡ picture.old.shape.width }
     ensures shape { picture.new.shape ≡ picture.old.shape }
-    ensures decoded { OnOk result (AreDecoded coefs.now picture.new) }
+    ensures written { (coefficients : Rows) → HoldRows coefficients lines.now → (component column : ℕ) → IsPlace picture.old.shape component line column → sample_at picture.new component line column ≡ decoded_sample lines.now.header.now coefficients component line column }
+    ensures others { (component row column : ℕ) → IsPlace picture.old.shape component row column → row ≢ line → sample_at picture.new component row column ≡ sample_at picture.old component row column }
 {
-    let header = coefs.header();
-    let mut y = component_plane(alloc, coefs, 0)?;
-    let mut u = component_plane(alloc, coefs, 1)?;
-    let mut v = component_plane(alloc, coefs, 2)?;
-    inverse_rct_planes(header, &mut y, &mut u, &mut v);
-    put_plane(alloc, header, 0, &y, picture)?;
-    put_plane(alloc, header, 1, &u, picture)?;
-    put_plane(alloc, header, 2, &v, picture)?;
-    Ok(())
+    let shape = *picture.shape();
+    'components: for component in 0..shape.format.components() {
+        let width = component_width(&shape, component) as usize;
+        put_row(lines, component, line, &mut samples[..width], picture);
+    }
+}
+
+// Writes the samples of a component in that line.
+fn put_row(lines: &Lines<'_>, component: u32, line: u32, samples: &mut [u16], picture: &mut Planes)
+    requires state { AreLines lines.now }
+    requires begun { 2 ^ lines.now.header.now.nly * lines.now.first ≤ line }
+    requires last { lines.now.given ≡ line + 1 }
+    requires row { IsRow picture.old.shape component line }
+    requires shape { picture.old.shape ≡ lines.now.header.now.shape }
+    requires width { length samples.old ≡ width_of picture.old.shape component }
+    ensures shape { picture.new.shape ≡ picture.old.shape }
+    ensures written { (coefficients : Rows) → HoldRows coefficients lines.now → (column : ℕ) → column < width_of picture.old.shape component → sample_at picture.new component line column ≡ decoded_sample lines.now.header.now coefficients component line column }
+    ensures others { (other row column : ℕ) → IsPlace picture.old.shape other row column → (other ≢ component) ⊎ (row ≢ line) → sample_at picture.new other row column ≡ sample_at picture.old other row column }
+{
+    known_picture(picture);
+    lines.write_samples(component, samples);
+    picture.set_row(component, line, samples);
+}
+
+// What the type of planes says of them.
+fn known_picture(picture: &Planes)
+    ensures { IsPicture picture.now }
+{
+    picture.shape();
 }

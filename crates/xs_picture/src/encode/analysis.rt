@@ -8,8 +8,7 @@ ghost use Rattle.xs_params.specs.Picture.{AreSamples, Picture};
 ghost use Rattle.xs_signal.specs.Lines.{AllBelow, entries_of};
 ghost use Rattle.xs_signal.specs.Samples.{scale_in as scaled_in};
 ghost use Rattle.xs_splitter.specs.Chain.{split_by};
-ghost use Rattle.xs_picture.specs.Decoding.{component_split};
-ghost use Rattle.xs_picture.specs.Analysed.{AreBandsOf, AreComponentBandsOf, IsGiven, IsLine, IsSplitUp, rows_by_type};
+ghost use Rattle.xs_picture.specs.Analysed.{AreBandsOf, AreComponentBandsOf, IsGiven, IsLine, IsSplitUp, component_split, rows_by_type};
 
 use crate::encode::bands::PictureBands;
 use crate::encode::colours::analyse_colours;
@@ -147,8 +146,8 @@ fn split_rows(
     Ok(())
 }
 
-// The numbers of a line of a component.
-fn scale_line(component: Component<'_>, line: u32, row: &mut [i32])
+/// The numbers of a line of a component: its scaled samples. docs/FORMAT.md, 'Samples, scaling and colour'.
+pub fn scale_line(component: Component<'_>, line: u32, row: &mut [i32])
     requires accepted { IsAccepted component.header.now }
     requires shape { component.picture.now.shape ≡ component.header.now.shape }
     requires plain { component.header.now.colour ≡ false }

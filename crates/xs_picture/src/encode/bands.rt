@@ -66,8 +66,8 @@ fn add(components: &mut Vec<Splitter>, component: Splitter) -> Result<(), Memory
     components.push(component).map_err(|_| Memory)
 }
 
-// A row of a band of a component.
-fn band_row(component: &Splitter, kind: BandKind, line: usize) -> &[i32]
+/// A row of a band of a component, by the band's kind and the line.
+pub fn band_row(component: &Splitter, kind: BandKind, line: usize) -> &[i32]
     requires across { kind.high_across ≡ true → 1 ≤ kind.across }
     requires down { kind.high_down ≡ true → 1 ≤ kind.down }
     requires line { line < length (rows_by_type component.now (type_of kind)) }

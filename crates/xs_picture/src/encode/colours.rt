@@ -25,10 +25,10 @@ struct ColourSamples<'a> {
 
 /// A row of luma and of both differences.
 #[derive(Drop)]
-struct ColourRows {
-    luma: Vec<i32>,
-    first: Vec<i32>,
-    second: Vec<i32>,
+pub struct ColourRows {
+    pub luma: Vec<i32>,
+    pub first: Vec<i32>,
+    pub second: Vec<i32>,
 }
 
 /// The bands of luma and of both colour differences of a picture.
@@ -76,8 +76,8 @@ fn bands_of_three(
 }
 
 impl ColourRows {
-    // Rows of zeros.
-    fn zeros(alloc: Global, width: usize) -> Result<ColourRows, Memory>
+    /// Rows of zeros.
+    pub fn zeros(alloc: Global, width: usize) -> Result<ColourRows, Memory>
         ensures luma { IfOk result (λ rows. length rows.luma.items ≡ width) }
         ensures first { IfOk result (λ rows. length rows.first.items ≡ width) }
         ensures second { IfOk result (λ rows. length rows.second.items ≡ width) }
@@ -92,8 +92,8 @@ impl ColourRows {
         })
     }
 
-    // The numbers of a line, in place of those that are there.
-    fn fill(&mut self, picture: &Planes, header: &Header, line: u32)
+    /// The numbers of a line, in place of those that are there: docs/FORMAT.md, 'Samples, scaling and colour'.
+    pub fn fill(&mut self, picture: &Planes, header: &Header, line: u32)
         requires accepted { IsAccepted header.now }
         requires shape { picture.now.shape ≡ header.now.shape }
         requires colour { header.now.colour ≡ true }

@@ -72,8 +72,12 @@ fn add(slices: &mut Vec<Octets>, slice: Octets) -> Result<(), Memory>
     slices.push(slice).map_err(|_| Memory)
 }
 
-// The codestream of some slices.
-fn assemble_stream(alloc: Global, settings: &Checked, slices: Vec<Octets>) -> Result<Stream, Memory>
+/// The codestream of all slices of a picture.
+pub fn assemble_stream(
+    alloc: Global,
+    settings: &Checked,
+    slices: Vec<Octets>,
+) -> Result<Stream, Memory>
     requires few { length slices.items ≤ most_slices }
     requires room { sum_by length slices.items + header_room ≤ most_stream }
     ensures stream { IfOk result (λ stream. stream ≡ stream_of (header_of settings.now) slices.items) }
