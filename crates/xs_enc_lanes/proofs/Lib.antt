@@ -1,0 +1,16 @@
+pub mod Lent
+pub mod Putting
+pub mod Known
+pub mod Folded
+pub mod Folding
+pub mod Filing
+pub mod UnderWay
+pub mod Coding
+pub mod Keeping
+pub mod Claiming
+pub mod Going
+pub mod Teams
+pub mod Ending
+pub mod Pictures
+pub mod InOrder
+pub mod Slices

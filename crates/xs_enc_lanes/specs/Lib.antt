@@ -1,0 +1,9 @@
+pub mod Rows
+pub mod Placed
+pub mod Transformed
+pub mod Coded
+pub mod Claimed
+pub mod Working
+pub mod Answered
+pub mod Finished
+pub mod Encoded
