@@ -1,0 +1,10 @@
+pub mod Layouts
+pub mod Absent
+pub mod Filing
+pub mod Handing
+pub mod Decoding
+pub mod Shown
+pub mod Runs
+pub mod Found
+pub mod Synthesised
+pub mod Looked
