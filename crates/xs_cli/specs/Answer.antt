@@ -1,4 +1,4 @@
--- What a run answers, by its words and its input: 'Command words' and 'Notes'. Neither the number of workers nor a schedule occurs, but for the check of
+-- What a run answers, by its words and its input: 'Command words', 'Runs' and 'Notes'. Neither the number of workers nor a schedule occurs, but for the check of
 -- ranges.
 use Rattle.std.specs.Prelude.{◌≡◌, ℕ, ◌+◌, ◌*◌, ◌≤◌, ◌⊎◌, ⊤, IsSome, Option, Some, None, List, [], length}
 use Rattle.xs_params.specs.Picture.{raw_size}

@@ -1,4 +1,4 @@
--- What `decode` writes and says of a capture: 'Command words', 'RTP packets and captures' and 'Notes'.
+-- What `decode` writes and says of a capture: 'Runs', 'RTP packets and captures' and 'Notes'.
 use Rattle.std.specs.Prelude.{◌≡◌, ℕ, ◌+◌, Option, None, Some, true, false, nat_eq, if◌then◌else◌, Result, Ok, Err, List, [], ◌∷◌, ◌++◌, map}
 use Rattle.xs_params.specs.Picture.{raw_bytes}
 use Rattle.xs_capture.specs.declared.pictures.SortFault.{SortFault}

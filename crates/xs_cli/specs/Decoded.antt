@@ -1,4 +1,4 @@
--- What `decode` writes and says: 'Command words' and 'Notes'.
+-- What `decode` writes and says: 'Runs' and 'Notes'.
 use Rattle.std.specs.Prelude.{◌≡◌, ℕ, ◌+◌, ◌-◌, ◌^◌, nat_eq, nat_le, nat_lt, Option, None, Some, MatchBool, List, [], ◌∷◌, length}
 use Rattle.std.specs.Option.{option_map}
 use Rattle.xs_lists.specs.First.{when, first_some}

@@ -1,4 +1,4 @@
--- What `encode` writes and says, picture after picture: 'Command words' and 'Notes'.
+-- What `encode` writes and says, picture after picture: 'Runs' and 'Notes'.
 use Rattle.std.specs.Prelude.{◌≡◌, ℕ, ◌+◌, ◌*◌, ◌<◌, ◌≤◌, nat_eq, nat_le, nat_lt, Result, Ok, Err, Option, None, Some, List, [], ◌∷◌, ◌++◌, length, take, flat_map}
 use Rattle.std.specs.Option.{option_map}
 use Rattle.xs_lists.specs.First.{when, first_some}

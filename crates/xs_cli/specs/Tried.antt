@@ -1,4 +1,4 @@
--- What `trial` writes and says: 'Trial' and 'Command words'. Neither the number of workers nor that of feeders occurs.
+-- What `trial` writes and says: 'Trial' and 'Notes'. Neither the number of workers nor that of feeders occurs.
 use Rattle.std.specs.Prelude.{◌≡◌, ℕ, ◌++◌, Result, Ok, Err, List, [], length, codes, decimal}
 use Rattle.xs_params.specs.declared.settings.Settings.{Settings}
 use Rattle.xs_params.specs.Picture.{Picture}

@@ -1,4 +1,4 @@
-// Codestreams become raw pictures, one after the other, or a capture does: 'Command words'.
+// Codestreams become raw pictures, one after the other, or a capture does: 'Runs'.
 ghost use Rattle.std.specs.Prelude.{◌≡◌, ◌≢◌, ◌+◌, ◌<◌, ◌≤◌, ◌^◌, ℕ, None, Some, IfErr, length, []};
 ghost use Rattle.xs_capture.specs.Pictures.{most_pictures};
 ghost use Rattle.xs_endings.specs.Ends.{IsLater, change_of, ends_of};

@@ -1,4 +1,4 @@
-// Raw pictures become codestreams, one after the other: 'Command words'.
+// Raw pictures become codestreams, one after the other: 'Runs'.
 ghost use Rattle.std.specs.Prelude.{◌≡◌, ◌≢◌, ◌+◌, ◌++◌, ◌*◌, ◌%◌, ◌<◌, ◌≤◌, ◌^◌, ℕ, [], IfErr, length, flat_map, All, IfOk, is_ok, if◌then◌else◌};
 ghost use Rattle.xs_params.specs.Check.{AreInRange};
 ghost use Rattle.xs_params.specs.Picture.{raw_size};
@@ -16,15 +16,16 @@ ghost use Rattle.xs_cli.specs.Steps.{AreDoneQuietly, IsDoneQuietly, IsOwnNote};
 
 use crate::input::{DONE, MOST_PICTURES, read};
 use std::alloc::Global;
+use std::thread::Threads;
 use xs_capture::write_frame;
+use xs_enc_lanes::encode_threaded;
 use xs_endings::{Stop, give};
 use xs_faults::SliceRefusal;
-use xs_io::{Memory, Octets, Sink, Source};
+use xs_io::{Gate, Memory, Octets, Sink, Source};
 use xs_notes::Note;
 use xs_pack::{Datagrams, pack};
 use xs_params::{Checked, Stream};
 use xs_pcap::{file_header, wrap};
-use xs_picture::encode_picture;
 use xs_samples::{SampleFault, raw_size, read_picture};
 use xs_words::Form;
 
@@ -44,19 +45,21 @@ pub enum Envelope {
 }
 
 /// Writes what stands before the pictures, and then the pictures.
-pub fn encode<R: Source, W: Sink>(
+pub fn encode<T: Threads + Sync, R: Source, W: Sink, G: Gate>(
+    threads: &T,
     alloc: Global,
     settings: &Checked,
     form: Form,
     input: &mut R,
     output: &mut W,
+    gate: &G,
 ) -> Result<u8, Stop>
     ensures { IsDoneQuietly (Commands.Encode settings.now form)
         (change_of (R.left input.old) (R.left input.new) (R.faults input.old) (R.faults input.new))
         (change_of (W.held output.old) (W.held output.new) (W.faults output.old) (W.faults output.new)) result }
 {
     begin(form, output)?;
-    pictures(alloc, settings, form, input, output)
+    pictures(threads, alloc, settings, form, input, output, gate)
 }
 
 /// Gives the header of a pcap file, as one piece.
@@ -70,12 +73,14 @@ fn begin<W: Sink>(form: Form, output: &mut W) -> Result<(), Stop>
 }
 
 /// Reads raw pictures one after the other, and writes each as it comes. At most one picture is held at a time.
-fn pictures<R: Source, W: Sink>(
+fn pictures<T: Threads + Sync, R: Source, W: Sink, G: Gate>(
+    threads: &T,
     alloc: Global,
     settings: &Checked,
     form: Form,
     input: &mut R,
     output: &mut W,
+    gate: &G,
 ) -> Result<u8, Stop>
     ensures { AreDoneQuietly settings.now form
         (change_of (R.left input.old) (R.left input.new) (R.faults input.old) (R.faults input.new))
@@ -90,7 +95,7 @@ fn pictures<R: Source, W: Sink>(
             return Ok(DONE);
         }
         let place = place_of(picture, size, sequence);
-        let packets = put(alloc, settings, form, place, raw, output)?;
+        let packets = put(threads, alloc, settings, form, place, raw, output, gate)?;
         sequence = next_sequence(sequence, packets);
     }
     let more = read(alloc, input, 1)?;
@@ -126,13 +131,15 @@ fn next_sequence(sequence: u16, packets: u32) -> u16
 }
 
 /// Encodes and writes one picture, and answers the number of its packets.
-fn put<W: Sink>(
+fn put<T: Threads + Sync, W: Sink, G: Gate>(
+    threads: &T,
     alloc: Global,
     settings: &Checked,
     form: Form,
     place: Place,
     bytes: &[u8],
     output: &mut W,
+    gate: &G,
 ) -> Result<u32, Stop>
     requires few { place.picture < most_pictures }
     requires small { place.byte ≤ 2 ^ 36 }
@@ -142,12 +149,19 @@ fn put<W: Sink>(
     ensures own { IfErr result IsOwnNote }
     ensures later { IsLater (change_of (W.held output.old) (W.held output.new) (W.faults output.old) (W.faults output.new)) }
 {
-    let stream = stream_of(alloc, settings, place, bytes)?;
+    let stream = stream_of(threads, alloc, settings, place, bytes, gate)?;
     write(alloc, settings, form, place, &stream, output)
 }
 
 /// The codestream of a picture.
-fn stream_of(alloc: Global, settings: &Checked, place: Place, bytes: &[u8]) -> Result<Stream, Stop>
+fn stream_of<T: Threads + Sync, G: Gate>(
+    threads: &T,
+    alloc: Global,
+    settings: &Checked,
+    place: Place,
+    bytes: &[u8],
+    gate: &G,
+) -> Result<Stream, Stop>
     requires few { place.picture < most_pictures }
     requires small { place.byte ≤ 2 ^ 36 }
     requires some { bytes.now ≢ [] }
@@ -172,8 +186,8 @@ fn stream_of(alloc: Global, settings: &Checked, place: Place, bytes: &[u8]) -> R
         }
         Err(SampleFault::Memory) => return Err(Stop::Memory),
     };
-    match encode_picture(alloc, &planes, settings) {
-        Ok(stream) => Ok(stream),
+    match encode_threaded(threads, alloc, &planes, settings, gate) {
+        Ok(encoded) => Ok(encoded.stream),
         Err(SliceRefusal::Budget(budget)) => Err(Stop::Told(Note::Budget {
             picture: place.picture,
             slice: budget.slice,

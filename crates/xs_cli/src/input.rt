@@ -6,7 +6,7 @@ use std::alloc::Global;
 use xs_endings::Stop;
 use xs_io::{Octets, Source, TakeFault, take_exact};
 
-/// A run has at most so many pictures, 'Command words'.
+/// A run has at most so many pictures, 'Runs'.
 pub const MOST_PICTURES: u32 = 256;
 
 /// All was done.

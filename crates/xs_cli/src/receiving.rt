@@ -1,4 +1,4 @@
-// The pictures of a capture are received: 'Command words' and 'RTP packets and captures'.
+// The pictures of a capture are received: 'Runs' and 'RTP packets and captures'.
 ghost use Rattle.std.specs.Prelude.{◌≡◌, ◌+◌, ◌<◌, ◌≤◌, ◌^◌, ℕ, Ok, OnOk, IfErr, IfOk, length, map, if◌then◌else◌, nat_eq};
 ghost use Rattle.xs_params.specs.Picture.{raw_bytes};
 ghost use Rattle.xs_capture.specs.Pictures.{offers_in, without_offers};

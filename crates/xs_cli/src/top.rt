@@ -21,8 +21,8 @@ use xs_words::{Command, Refusal, command_of};
 /// out of range, 3 for an input of another form, 4 for a slice over its share, 5 for a picture of which packets are
 /// missing, 6 for a damaged one, 7 where the input failed, 8 where the output or the notes failed, 9 where memory was
 /// wanting. The words are those after the program's name. Each codestream, packet, raw picture and note is given as one
-/// piece, as soon as it is there. The call always returns. Only where a picture is
-/// received do threads start: feeders and workers, all of which end before the call does.
+/// piece, as soon as it is there. The call always returns. Threads start where a picture is encoded, one for each component and
+/// the workers, and where one is received, feeders and workers; none of them outlives its picture.
 pub fn run<T: Threads + Sync, R: Source, W: Sink, N: Sink, G: Gate>(
     threads: &T,
     alloc: Global,
@@ -57,7 +57,9 @@ fn execute<T: Threads + Sync, R: Source, W: Sink, N: Sink, G: Gate>(
         (change_of (N.held notes.old) (N.held notes.new) (N.faults notes.old) (N.faults notes.new))) result }
 {
     match command_of(alloc, words) {
-        Ok(Command::Encode { settings, form }) => encode(alloc, &settings, form, input, output),
+        Ok(Command::Encode { settings, form }) => encode(
+            threads, alloc, &settings, form, input, output, gate,
+        ),
         Ok(
             Command::Decode {
                 form,

@@ -15,13 +15,13 @@ use crate::input::DONE;
 use std::alloc::Global;
 use std::thread::Threads;
 use xs_capture::{Packet, Parts, offer};
+use xs_enc_lanes::encode_threaded;
 use xs_endings::{Stop, give};
 use xs_faults::SliceRefusal;
 use xs_io::{Gate, Memory, Octets, Sink};
 use xs_notes::Note;
 use xs_pack::{Datagrams, pack};
 use xs_params::{Checked, Planes, Stream};
-use xs_picture::encode_picture;
 use xs_recv::{Received, Reception, receive_picture};
 use xs_trial::{Comparison, compare, shuffle, trial_picture};
 
@@ -93,19 +93,25 @@ fn lines_of<T: Threads + Sync, G: Gate>(
     ensures { IsLinesOf settings.now seed result }
 {
     let (picture, state) = trial_picture(alloc, &settings.settings().shape, seed)?;
-    let stream = stream_of(alloc, settings, &picture)?;
+    let stream = stream_of(threads, alloc, settings, &picture, gate)?;
     let outcome = send(threads, alloc, settings, &picture, &stream, state, gate)?;
     let lines = outcome.lines(alloc)?;
     Ok(lines)
 }
 
 /// The codestream of a picture.
-fn stream_of(alloc: Global, settings: &Checked, picture: &Planes) -> Result<Stream, Stop>
+fn stream_of<T: Threads + Sync, G: Gate>(
+    threads: &T,
+    alloc: Global,
+    settings: &Checked,
+    picture: &Planes,
+    gate: &G,
+) -> Result<Stream, Stop>
     requires { picture.now.shape ≡ settings.now.shape }
     ensures { IsEncodedOr settings.now picture.now result }
 {
-    match encode_picture(alloc, picture, settings) {
-        Ok(stream) => Ok(stream),
+    match encode_threaded(threads, alloc, picture, settings, gate) {
+        Ok(encoded) => Ok(encoded.stream),
         Err(SliceRefusal::Budget(budget)) => Err(Stop::Told(Note::Budget {
             picture: 0,
             slice: budget.slice,

@@ -26,6 +26,7 @@ use Rattle.xs_reading.specs.Slice.{no_content, slice_unit_fault}
 use Rattle.xs_decoding.specs.Decoded.{IsDecodingOf, IsPictureOf}
 use Rattle.xs_decoding.specs.Laws.{SameRowsWithin}
 use Rattle.xs_decoding.proofs.Within.{decoded_within}
+use Rattle.xs_magnitudes.proofs.Small.{unit_small}
 use Rattle.xs_slice_read.specs.Unit.{IsUnitRead}
 use Rattle.xs_picture.specs.Coefs.{AreCoefs, rows_of_slices}
 use Rattle.xs_capture.specs.Selection.{AreMissing, HasBytes, Held, IsBounded, IsWholeUnit, unit_bytes}
@@ -131,7 +132,14 @@ slice_of_line h band line = div-div-eq-div-mul line (precinct_lines h band) h.hs
 
 module _ (held : Held) (h : Header) (size : ℕ) (slices : List (List BandLines)) (total : ℕ) (accepted : IsAccepted h) (so : AreRead held h size (slice_count h) slices total) where
   pub are_coefs : AreCoefs (record { header = h; slices = slices })
-  are_coefs = record { accepted = accepted; count = so.number; lines = λ slice there. (so.read slice there).lines }
+  are_coefs = record {
+    accepted = accepted;
+    count = so.number;
+    lines = λ slice there. (so.read slice there).lines;
+    small = λ slice there.
+        let read = so.read slice there in
+        unit_small h read.content slice (get_or so.units slice []) (get_or slices slice []) accepted read.spelled read.lines read.shown;
+  }
 
   abbrev pub Shown : ℕ → Content → Type 0
   Shown slice content = IsSliceUnit h content slice (get_or so.units slice []) × ShowRows h (dequantised_rows h content) (get_or slices slice [])
