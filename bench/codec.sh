@@ -1,6 +1,7 @@
 #!/bin/sh
 # Times the encoder and the decoder on pictures of growing size, a pattern and noise, with one wavelet level and with five across
-# and two down: the cost of a sample must not grow with the picture. Each picture must come back.
+# and two down: the cost of a sample must not grow with the picture. Each picture must come back. Times are those of
+# all processors together.
 # It uses the built program (crates/xsx/out/xsx, after `rt run` there or a whole `rt ci`), and GNU time.
 . "$(dirname "$0")/common.sh"
 program=$(built xsx 'rt run')

@@ -1,6 +1,7 @@
 #!/bin/sh
 # Counts instructions and times nanoseconds a sample to encode and to decode one picture: 1920x1080, 4:2:2, 10 bits, ffmpeg's Mandelbrot
-# set, at so many bits a pixel (4 where none are given). Instructions do not depend on what else the machine does; times do.
+# set, at so many bits a pixel (4 where none are given). Instructions hang on what else the machine does only by how often a worker
+# looks for a slice that is whole; times, which are those of all processors together, hang on it.
 # It uses the built program (crates/xsx/out/xsx, after `rt run` there or a whole `rt ci`), ffmpeg, valgrind and GNU time.
 #
 #   sh bench/instructions.sh [BITS]

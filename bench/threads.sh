@@ -1,7 +1,8 @@
 #!/bin/sh
-# Decodes random captures by the program with 1, 2, 4 and 16 workers and 1 to 8 feeders: packets in any order, repeated in another guise,
-# lost, damaged, among packets that are no offers, with boxes before the header. Output, notes and status have to be those of the reference
-# each time; where senders disagree, those of some choice among them. A capture with more than 64 choices is left out.
+# Encodes pictures at random settings by the program with 1, 2, 4 and 16 workers, and decodes random captures with as many workers and 1
+# to 8 feeders: packets in any order, repeated in another guise, lost, damaged, among packets that are no offers, with boxes before
+# the header. Output, notes and status have to be those of the reference each time; where senders disagree, those of some choice among
+# them. A capture with more than 64 choices is left out.
 # It uses the built program (crates/xsx/out/xsx, after `rt run` there or a whole `rt ci`), and python3.
 #
 #   sh bench/threads.sh [SEED [COUNT]]

@@ -1,6 +1,6 @@
 #!/bin/sh
-# Times the wavelet on a plane of 4096 by 2160 numbers, nlx 5 and nly 2, split and joined, beside plain Rust that does the
-# same steps: nanoseconds a sample, the median of five runs.
+# Times whole planes of xs_wave, which no command uses: one of 4096 by 2160 numbers, nlx 5 and nly 2, split and joined, beside plain
+# Rust that does the same steps: nanoseconds a sample, the median of five runs.
 # It uses the built program (crates/xs_wave_bench/out/xs_wave_bench, after `rt run` there or a whole `rt ci`), rustc and
 # GNU time.
 . "$(dirname "$0")/common.sh"

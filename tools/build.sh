@@ -1,6 +1,6 @@
 #!/bin/sh
 # Proves the program and all that it stands on, builds it, and leaves it at crates/xsx/out/xsx. The kit leaves no program that is not
-# proved: `rt try` builds one without proof in about a minute, runs it once and keeps nothing (tools/demo.sh does so). The first
+# proved: `rt try` builds one without proof in about a minute, runs it once and keeps nothing (tools/try.sh does so). The first
 # run proves every crate below the program and is long; a later one proves what changed.
 #
 #   sh tools/build.sh

@@ -4,7 +4,7 @@ set -eu
 
 here=$(cd "$(dirname "$0")" && pwd)
 program=${XSX:-$here/../../crates/xsx/out/xsx}
-[ -x "$program" ] || program=$(command -v xsx) || { echo "no xsx: 'sh tools/build.sh' builds it" >&2; exit 1; }
+[ -x "$program" ] || program=$(command -v xsx) || { echo "no xsx: 'sh tools/build.sh' builds it, and XSX=tools/try.sh does without" >&2; exit 1; }
 command -v ffmpeg >/dev/null && command -v ffprobe >/dev/null || { echo 'no ffmpeg with ffprobe' >&2; exit 1; }
 folder=$(mktemp -d)
 trap 'rm -rf "$folder"' EXIT
@@ -18,9 +18,9 @@ measure() {
     raw="-f rawvideo -pix_fmt yuv422p10le -s ${width}x$height"
 }
 
-# Writes so many frames of a file as raw pictures: 4:2:2 samples of 10 bits.
+# Writes so many frames of a file as raw pictures: 4:2:2 samples of 10 bits. What a file says of turning is left aside, as in its size.
 take_frames() {
-    ffmpeg -v error -i "$1" -frames:v "$2" -vf "crop=$width:$height:0:0" -f rawvideo -pix_fmt yuv422p10le "$3"
+    ffmpeg -v error -noautorotate -i "$1" -frames:v "$2" -vf "crop=$width:$height:0:0" -f rawvideo -pix_fmt yuv422p10le "$3"
 }
 
 # Encodes raw pictures at about so many bits a pixel, with these other words. A slice is 16 lines by default.
