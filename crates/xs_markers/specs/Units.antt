@@ -1,4 +1,4 @@
--- What is sent of a header: boxes, and the header from its start marker on: 'Picture header' and 'RTP packets'.
+-- What is sent of a header: boxes, and the header from its start marker on: 'Picture header' and 'RTP packets and captures'.
 use Rattle.std.specs.Prelude.{ℕ, zero, suc, ◌+◌, ◌&&◌, Bool, nat_eq, nat_lt, nat_le, if◌then◌else◌, Option, Result, Ok, Err, List, [], ◌∷◌, length, drop}
 use Rattle.std.specs.Result.{result_err, result_unwrap_or}
 use Rattle.xs_lists.specs.Fields.{half_word_at, word_at}

@@ -1,5 +1,5 @@
--- What the bytes of a codestream hold after its header, and their first fault: 'Codestream layout'. Each end of the bytes is one fault, which names
--- their number.
+-- What the bytes of a codestream hold after its header, and their first fault: 'Codestream layout' and 'Slice, precinct and packet'. Each end of the
+-- bytes is one fault, which names their number.
 use Rattle.std.specs.Prelude.{ℕ, ◌+◌, not, nat_eq, nat_lt, ◌||◌, Option, List, [], ◌∷◌, length, take, drop, map}
 use Rattle.std.specs.Option.{option_map}
 use Rattle.xs_lists.specs.First.{when, first_some}
