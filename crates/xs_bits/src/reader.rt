@@ -22,9 +22,9 @@ pub struct BitReader<'a> {
 impl<'a> Model for BitReader<'a> {
     ghost use Rattle.std.specs.Prelude.{◌*◌, ◌^◌, ◌<◌, ◌≤◌, length};
     ghost use Rattle.xs_lists.specs.Bits.{bits_of_bytes};
-    ghost use Rattle.xs_bits.specs.Reading.{Reading};
+    ghost use Rattle.xs_bits.specs.Reading.{BitReading};
 
-    ghost Value = { Reading };
+    ghost Value = { BitReading };
 
     ghost view = { λ s. record { bits = bits_of_bytes s.bytes.now; place = s.place } };
 

@@ -29,7 +29,7 @@ use Rattle.xs_endings.specs.Said.{Said, only_note}
 use Rattle.xs_recv.specs.declared.received.Received.TheVariants as received
 use Rattle.xs_recv.proofs.Sent.{sent_is_received}
 use Rattle.xs_cli.specs.Captured.{AreSaidOf, IsCaptured, IsReceivedOf, said_of, said_then, stepped_said}
-use Rattle.xs_cli.specs.CapturedLaws.{AreSentFrom, IsSentAs, Sent, SentIsWritten, packets_from}
+use Rattle.xs_cli.specs.CapturedLaws.{AreSentFrom, IsSentPicture, Sent, SentIsWritten, packets_from}
 use Rattle.xs_cli.specs.Decoded.{input_limit}
 use Rattle.xs_cli.proofs.CapturedOne.{in_picture, of_picture, one_said}
 use Rattle.xs_cli.proofs.CapturedWhole.{captured_by}
@@ -56,7 +56,7 @@ agree_with : (p q r : Offer) → p ≡ r → q ≡ r → Agree p q
 agree_with p q r e f = record { last = ap (λ (x : Offer). x.last) e ∙ sym (ap (λ (x : Offer). x.last) f); bytes = ap (λ (x : Offer). x.bytes) e ∙ sym (ap (λ (x : Offer). x.bytes) f) }
 
 -- a packet of one picture is an offer of it
-packet_is_sent : (s : Settings) (number : ℕ) (one : Sent) → IsSentAs s number one → (packet : List ℕ) → Contains (datagrams_of s one.stream number one.sequence) packet
+packet_is_sent : (s : Settings) (number : ℕ) (one : Sent) → IsSentPicture s number one → (packet : List ℕ) → Contains (datagrams_of s one.stream number one.sequence) packet
     → (p : Offer) × (offer_of packet ≡ Some p) × IsSent s (units_of s.boxes one.stream) number p
 packet_is_sent s number one is packet has =
     let units = units_of s.boxes one.stream in
@@ -80,11 +80,11 @@ module _ (s : Settings) (d : Sent) where
   IsSentAt number sent k p = (k < length sent) × IsSent s (units_of s.boxes (get_or sent k d).stream) (number + k) p
 
   -- each can be sent
-  each_sent : (number : ℕ) (sent : List Sent) → AreSentFrom s number sent → (k : ℕ) → k < length sent → IsSentAs s (number + k) (get_or sent k d)
+  each_sent : (number : ℕ) (sent : List Sent) → AreSentFrom s number sent → (k : ℕ) → k < length sent → IsSentPicture s (number + k) (get_or sent k d)
   each_sent number [] are k below = absurd (omega (arith, below))
-  each_sent number (one ∷ more) are zero below = let e : number ≡ number + 0 = omega arith in subst (λ n. IsSentAs s n one) e are.0
+  each_sent number (one ∷ more) are zero below = let e : number ≡ number + 0 = omega arith in subst (λ n. IsSentPicture s n one) e are.0
   each_sent number (one ∷ more) are (suc k) below =
-      let e : number + 1 + k ≡ number + suc k = omega arith in subst (λ n. IsSentAs s n (get_or more k d)) e (each_sent (number + 1) more are.1 k (omega (arith, below)))
+      let e : number + 1 + k ≡ number + suc k = omega arith in subst (λ n. IsSentPicture s n (get_or more k d)) e (each_sent (number + 1) more are.1 k (omega (arith, below)))
 
   -- a packet is an offer of one of them
   of_packets : (number : ℕ) (sent : List Sent) → AreSentFrom s number sent → (packet : List ℕ) → Contains (packets_from s number sent) packet

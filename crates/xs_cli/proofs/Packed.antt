@@ -21,7 +21,7 @@ use Rattle.xs_rate.proofs.Encoded.{encoded_in_grammar}
 use Rattle.xs_rate.proofs.FirstOver.{first_over_law, same_stream}
 use Rattle.xs_rate.proofs.Headers.{components-few, few-bands, header-size}
 use Rattle.xs_cli.specs.declared.encoding.Envelope.{Envelope}
-use Rattle.xs_cli.specs.Encoded.{HasRoom, enveloped}
+use Rattle.xs_cli.specs.Encoded.{FitsEnvelope, enveloped}
 use Rattle.xs_pack.specs.Datagrams.{IsPackable, SentUnit, datagram, datagrams_of, piece_count, piece_of, sent_unit, unit_datagrams, units_of}
 use Rattle.xs_pack.proofs.Cutting.{packable}
 use Rattle.xs_pack.proofs.Members.{of_flat, of_map}
@@ -58,15 +58,15 @@ encoding_packable s picture stream range e =
 
 -- Envelopes
 
-short_datagram : (s : Settings) (unit : SentUnit) (piece : ℕ) → s.chunk ≤ 8192 → HasRoom (datagram s unit piece)
+short_datagram : (s : Settings) (unit : SentUnit) (piece : ℕ) → s.chunk ≤ 8192 → FitsEnvelope (datagram s unit piece)
 short_datagram s unit piece few =
     let cut : length (piece_of s.chunk unit.bytes piece) ≤ s.chunk = omega (arith, length-take s.chunk (drop (piece * s.chunk) unit.bytes)) in
     let size : length (datagram s unit piece) ≡ 16 + length (piece_of s.chunk unit.bytes piece) = omega arith in
     omega (arith, cut, size, few)
 
 -- each packet has room in a frame, and in a record
-pub short_datagrams : (s : Settings) (stream : Stream) (picture sequence : ℕ) → AreInRange s → All HasRoom (datagrams_of s stream picture sequence)
-short_datagrams s stream picture sequence range = All-from_get_or HasRoom packets [] (λ n inside. one (get_or packets n []) (Contains-get_or packets n [] inside))
+pub short_datagrams : (s : Settings) (stream : Stream) (picture sequence : ℕ) → AreInRange s → All FitsEnvelope (datagrams_of s stream picture sequence)
+short_datagrams s stream picture sequence range = All-from_get_or FitsEnvelope packets [] (λ n inside. one (get_or packets n []) (Contains-get_or packets n [] inside))
   where
     packets : List (List ℕ)
     packets = datagrams_of s stream picture sequence
@@ -74,11 +74,11 @@ short_datagrams s stream picture sequence range = All-from_get_or HasRoom packet
     unit_of : ℕ → SentUnit
     unit_of unit = sent_unit s (units_of s.boxes stream) picture sequence unit
 
-    one : (packet : List ℕ) → Contains packets packet → HasRoom packet
+    one : (packet : List ℕ) → Contains packets packet → FitsEnvelope packet
     one packet there =
         let unit = of_flat (λ unit. unit_datagrams s (unit_of unit)) (upto (length (units_of s.boxes stream))) packet there in
         let piece = of_map (datagram s (unit_of unit.0)) (upto (piece_count s.chunk (unit_of unit.0).bytes)) packet unit.2 in
-        subst HasRoom piece.2 (short_datagram s (unit_of unit.0) piece.0 range.chunk.1)
+        subst FitsEnvelope piece.2 (short_datagram s (unit_of unit.0) piece.0 range.chunk.1)
 
 -- the packets from a number on, each in its envelope
 pub frame_next : (envelope : Envelope) (packets : List (List ℕ)) (at : ℕ) → at < length packets

@@ -12,7 +12,7 @@ use Rattle.xs_recv.proofs.Samples.{one_picture}
 use Rattle.xs_trial.specs.Generator.{trial_picture}
 use Rattle.xs_endings.specs.Said.{Said, only_note}
 use Rattle.xs_cli.specs.Encoded.{over_share}
-use Rattle.xs_cli.specs.Tried.{IsTriedBy, lines_said, outcome_of}
+use Rattle.xs_cli.specs.Tried.{IsTriedBy, lines_said, trial_outcome}
 use Rattle.xs_cli.specs.TriedLaws.{OneTrial, TrialsAnswered}
 use Rattle.xs_cli.proofs.TrialBrought.{encoding_read}
 
@@ -31,14 +31,14 @@ trials_answered s seed range = go (encoding_of s (trial_picture s.shape seed)) r
     go : (r : Result Stream Budget) → encoding_of s (trial_picture s.shape seed) ≡ r → (said : Said) × IsTriedBy s (trial_picture s.shape seed) r said
     go (Ok stream) e =
         let back = encoding_read s (trial_picture s.shape seed) stream range e in
-        let outcome = outcome_of s (trial_picture s.shape seed) stream back.picture in
+        let outcome = trial_outcome s (trial_picture s.shape seed) stream back.picture in
         (lines_said outcome, (outcome, (back.picture, back.read, refl), refl))
     go (Err budget) e = (only_note (over_share 0 budget), refl)
 
 one_tried : (s : Settings) (picture : Picture) (r : Result Stream Budget) (said other : Said) → IsTriedBy s picture r said → IsTriedBy s picture r other → said ≡ other
 one_tried s picture (Ok stream) said other x y =
     let decoded = one_read (stream_bytes stream) (length (stream_bytes stream)) x.1.0 y.1.0 x.1.1 y.1.1 in
-    x.2 ∙ ap lines_said (x.1.2 ∙ ap (outcome_of s picture stream) decoded ∙ sym y.1.2) ∙ sym y.2
+    x.2 ∙ ap lines_said (x.1.2 ∙ ap (trial_outcome s picture stream) decoded ∙ sym y.1.2) ∙ sym y.2
 one_tried s picture (Err budget) said other x y = x ∙ sym y
 
 pub one_trial : OneTrial

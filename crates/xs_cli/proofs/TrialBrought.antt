@@ -48,7 +48,7 @@ use Rattle.xs_recv.proofs.Sent.{sent_is_received}
 use Rattle.xs_trial.specs.Generator.{shuffle_of}
 use Rattle.xs_trial.proofs.Mixing.{length-order}
 use Rattle.xs_trial.specs.declared.comparison.Comparison.{Comparison}
-use Rattle.xs_cli.specs.declared.trial.Outcome.{Outcome}
+use Rattle.xs_cli.specs.declared.trial.TrialOutcome.{TrialOutcome}
 use Rattle.xs_cli.specs.Trying.{AreOffered, BringPicture, in_order}
 use Rattle.xs_cli.proofs.Exists.{picture_exists}
 use Rattle.xs_cli.proofs.TrialDealt.{few_flat, order_same}
@@ -234,7 +234,7 @@ one_received a b e = ap (λ answer. picture_in answer a) e
 
 -- an outcome is told by its fields
 pub same_outcome : (slices bytes packets slices' bytes' packets' : ℕ) (found found' : Comparison) → slices ≡ slices' → bytes ≡ bytes' → packets ≡ packets' → found ≡ found'
-    → ◌≡◌ {A = Outcome} (record { slices = slices; bytes = bytes; packets = packets; found = found }) (record { slices = slices'; bytes = bytes'; packets = packets'; found = found' })
+    → ◌≡◌ {A = TrialOutcome} (record { slices = slices; bytes = bytes; packets = packets; found = found }) (record { slices = slices'; bytes = bytes'; packets = packets'; found = found' })
 same_outcome slices bytes packets slices' bytes' packets' found found' p q r t =
     ap (λ x. record { slices = x; bytes = bytes; packets = packets; found = found }) p ∙ ap (λ x. record { slices = slices'; bytes = x; packets = packets; found = found }) q
     ∙ ap (λ x. record { slices = slices'; bytes = bytes'; packets = x; found = found }) r ∙ ap (λ x. record { slices = slices'; bytes = bytes'; packets = packets'; found = x }) t

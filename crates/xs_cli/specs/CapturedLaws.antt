@@ -49,7 +49,7 @@ pub record Sent : Type 0 where
   pub picture : Picture
 
 -- the codestream of the picture can be sent, as that of this number
-pub record IsSentAs (s : Settings) (number : ℕ) (sent : Sent) : Type 0 where
+pub record IsSentPicture (s : Settings) (number : ℕ) (sent : Sent) : Type 0 where
   pub header : Header
   pub content : Content
   pub stream : IsStreamOf s.boxes header content sent.stream
@@ -59,7 +59,7 @@ pub record IsSentAs (s : Settings) (number : ℕ) (sent : Sent) : Type 0 where
 -- pictures are numbered one after the other
 abbrev pub AreSentFrom : Settings → ℕ → List Sent → Type 0
 AreSentFrom s number [] = ⊤
-AreSentFrom s number (sent ∷ more) = IsSentAs s number sent × AreSentFrom s (number + 1) more
+AreSentFrom s number (sent ∷ more) = IsSentPicture s number sent × AreSentFrom s (number + 1) more
 
 -- all their packets
 abbrev pub packets_from : Settings → ℕ → List Sent → List (List ℕ)

@@ -55,8 +55,8 @@ enveloped Frame packet = frame packet
 enveloped (Record timestamp port) packet = wrapped port timestamp packet
 
 -- a packet has room in either
-abbrev pub HasRoom : List ℕ → Type 0
-HasRoom packet = length packet ≤ most_wrapped
+abbrev pub FitsEnvelope : List ℕ → Type 0
+FitsEnvelope packet = length packet ≤ most_wrapped
 
 -- so many packets are written
 abbrev pub written_in : Settings → Envelope → List (List ℕ) → Turn

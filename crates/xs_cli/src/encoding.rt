@@ -10,7 +10,7 @@ ghost use Rattle.xs_endings.specs.Turns.{IsTaken, Writes};
 ghost use Rattle.xs_params.specs.Stream.{stream_bytes};
 ghost use Rattle.xs_capture.specs.Pictures.{most_pictures};
 ghost use Rattle.xs_pack.specs.Datagrams.{IsPackable};
-ghost use Rattle.xs_cli.specs.Encoded.{HasRoom, encode_turn, enveloped, file_front, packets_sent, timestamp_of, written_as, written_in};
+ghost use Rattle.xs_cli.specs.Encoded.{FitsEnvelope, encode_turn, enveloped, file_front, packets_sent, timestamp_of, written_as, written_in};
 ghost use Rattle.xs_cli.specs.Places.{IsStreamAt, before_of};
 ghost use Rattle.xs_cli.specs.Steps.{AreDoneQuietly, IsDoneQuietly, IsOwnNote};
 
@@ -268,7 +268,7 @@ fn give_packets<W: Sink>(
     envelope: Envelope,
     output: &mut W,
 ) -> Result<(), Stop>
-    requires short { All HasRoom packets.now }
+    requires short { All FitsEnvelope packets.now }
     ensures { IsGiven (change_of (W.held output.old) (W.held output.new) (W.faults output.old) (W.faults output.new)) (flat_map (enveloped envelope) packets.now) result }
 {
     'giving: for number in 0..packets.len() {
@@ -284,7 +284,7 @@ fn give_packet<W: Sink>(
     envelope: Envelope,
     output: &mut W,
 ) -> Result<(), Stop>
-    requires short { HasRoom packet.now }
+    requires short { FitsEnvelope packet.now }
     ensures { IsGiven (change_of (W.held output.old) (W.held output.new) (W.faults output.old) (W.faults output.new)) (enveloped envelope packet.now) result }
 {
     let mut bytes = Octets::new(alloc);
@@ -294,7 +294,7 @@ fn give_packet<W: Sink>(
 
 /// Appends a packet in its envelope. Where it is refused, the list is as before.
 fn envelop(alloc: Global, out: &mut Octets, packet: &[u8], envelope: Envelope) -> Result<(), Memory>
-    requires { HasRoom packet.now }
+    requires { FitsEnvelope packet.now }
     ensures { out.new ≡ (if is_ok result then out.old ++ enveloped envelope packet.now else out.old) }
 {
     match envelope {

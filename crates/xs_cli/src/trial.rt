@@ -7,7 +7,7 @@ ghost use Rattle.xs_params.specs.Picture.{Picture};
 ghost use Rattle.xs_rate.specs.Encoding.{encoding_of};
 ghost use Rattle.xs_trial.specs.Generator.{shuffle_of};
 ghost use Rattle.xs_endings.specs.Ends.{change_of};
-ghost use Rattle.xs_cli.specs.Tried.{IsOutcome, number_line, outcome_lines};
+ghost use Rattle.xs_cli.specs.Tried.{IsTrialOutcome, number_line, outcome_lines};
 ghost use Rattle.xs_cli.specs.TriedLaws.{OneTrial, TrialsAnswered};
 ghost use Rattle.xs_cli.specs.Trying.{AreOffered, HasTried, IsEncodedOr, IsLinesOf, IsTrialSized, in_order};
 
@@ -27,14 +27,14 @@ use xs_trial::{Comparison, compare, shuffle, trial_picture};
 
 /// What a trial came to.
 #[derive(Clone, Copy)]
-pub struct Outcome {
+pub struct TrialOutcome {
     slices: u32,
     bytes: u64,
     packets: u32,
     found: Comparison,
 }
 
-impl Outcome {
+impl TrialOutcome {
     /// The six lines of it.
     fn lines(&self, alloc: Global) -> Result<Octets, Memory>
         ensures { IfOk result (λ lines. lines ≡ outcome_lines self.now) }
@@ -132,11 +132,11 @@ fn send<T: Threads + Sync, G: Gate>(
     stream: &Stream,
     state: u64,
     gate: &G,
-) -> Result<Outcome, Memory>
+) -> Result<TrialOutcome, Memory>
     requires sized { IsTrialSized settings.now }
     requires shape { picture.now.shape ≡ settings.now.shape }
     requires encoded { encoding_of settings.now picture.now ≡ Ok stream.now }
-    ensures { IfOk result (IsOutcome settings.now picture.now stream.now) }
+    ensures { IfOk result (IsTrialOutcome settings.now picture.now stream.now) }
 {
     let asked = settings.settings();
     known_words(asked.ssrc);
@@ -150,7 +150,7 @@ fn send<T: Threads + Sync, G: Gate>(
         gate,
     )?);
     let bytes = stream.bytes(alloc)?;
-    Ok(Outcome {
+    Ok(TrialOutcome {
         slices: stream.len(),
         bytes: bytes.len() as u64,
         packets: packets.len(),

@@ -10,7 +10,7 @@ use xs_io::{Gate, MemSink, MemSource, Memory, Numbers, Octets, OpenGate};
 
 /// What a run left.
 #[derive(Drop)]
-pub struct Outcome {
+pub struct RunOutcome {
     pub status: u8,
     pub output: MemSink,
     pub notes: MemSink,
@@ -25,6 +25,7 @@ pub struct Failing {
 }
 
 impl Failing {
+    /// No call fails.
     pub fn none(alloc: Global) -> Failing {
         Failing {
             input: Numbers::new(alloc),
@@ -53,7 +54,7 @@ pub fn run_on<T: Threads + Sync>(
     words: &str,
     input: Octets,
     failing: Failing,
-) -> Result<Outcome, Memory> {
+) -> Result<RunOutcome, Memory> {
     run_by(threads, alloc, words, (input, failing), &OpenGate)
 }
 
@@ -64,7 +65,7 @@ fn run_by<T: Threads + Sync, G: Gate>(
     words: &str,
     given: (Octets, Failing),
     gate: &G,
-) -> Result<Outcome, Memory> {
+) -> Result<RunOutcome, Memory> {
     let (input, failing) = given;
     let words = words_of(alloc, words)?;
     let mut input = MemSource::new(input, failing.input);
@@ -79,7 +80,7 @@ fn run_by<T: Threads + Sync, G: Gate>(
         &mut notes,
         gate,
     );
-    Ok(Outcome {
+    Ok(RunOutcome {
         status,
         output,
         notes,
@@ -128,7 +129,7 @@ fn is_said(alloc: Global, held: &[u8], lines: &str) -> Result<bool, Memory> {
 /// Whether a run left what the parts of a row say: status, output and notes.
 pub fn has_left(
     alloc: Global,
-    left: &Outcome,
+    left: &RunOutcome,
     status: &str,
     output: &str,
     notes: &str,

@@ -3,7 +3,7 @@
 //
 // Between pictures of runs of their own stands `&`. Instead of numbers there may stand `all` packets, and all of them `reversed`.
 use crate::bytes::{bytes_of, number};
-use crate::rows::{Failing, Outcome, has_left, run_on};
+use crate::rows::{Failing, RunOutcome, has_left, run_on};
 use std::alloc::Global;
 use std::thread::Threads;
 use xs_io::{Memory, Octets};
@@ -95,7 +95,7 @@ fn left_of<T: Threads + Sync>(
     words: &str,
     pictures: &str,
     frames: &str,
-) -> Result<Outcome, Memory> {
+) -> Result<RunOutcome, Memory> {
     let capture = capture_of(threads, alloc, words, pictures)?;
     let arriving = chosen(alloc, capture.as_slice(), frames)?;
     run_on(threads, alloc, DECODE, arriving, Failing::none(alloc))

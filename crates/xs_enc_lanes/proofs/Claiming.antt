@@ -17,7 +17,7 @@ use Rattle.xs_enc_lanes.specs.declared.claim.Tried.{Tried}
 use Rattle.xs_enc_lanes.specs.declared.claim.Tried.TheVariants.{Got, NotWhole, Gone, Starved}
 use Rattle.xs_enc_lanes.specs.Claimed.{Tells}
 use Rattle.xs_enc_lanes.specs.Rows.{Carried, parts}
-use Rattle.xs_enc_lanes.specs.Working.{FilesNothing, GetsMore, Goes, GotIfWhole, IsReady, Sweeps, SweepsTo}
+use Rattle.xs_enc_lanes.specs.Working.{FilesNothing, GetsMore, Goes, GotIfWhole, IsReadyToCode, Sweeps, SweepsTo}
 
 -- What was got
 
@@ -110,7 +110,7 @@ alone_still v w s alone = s.0 ∙ alone ∙ ap (λ n. 2 ^ n) (sym s.1)
 
 -- What an activity does
 
-pub goes_none : (job : Job) (a : Activity) → IsReady job a → Goes job a a
+pub goes_none : (job : Job) (a : Activity) → IsReadyToCode job a → Goes job a a
 goes_none job a ready = record { ready = ready; share = (refl, refl); files = record { stored = refl; repeated = refl }; grows = more_none (view a.pass) (view a.pass) refl; role = refl; starved = λ sated. sated }
 
 pub goes_on : (job : Job) (a b c : Activity) → Goes job a b → Goes job b c → Goes job a c

@@ -23,11 +23,11 @@ use Rattle.xs_enc_lanes.specs.declared.activity.Activity.{Activity}
 use Rattle.xs_enc_lanes.specs.declared.activity.CodedSlice.{CodedSlice}
 use Rattle.xs_enc_lanes.specs.declared.activity.Job.{Job}
 use Rattle.xs_enc_lanes.specs.Answered.{AreSliced}
-use Rattle.xs_enc_lanes.specs.Coded.{ArePadded, HasSlice, IsCodedOf, IsOutcome, rows_of_job}
+use Rattle.xs_enc_lanes.specs.Coded.{ArePadded, HasSlice, IsCodedOf, IsCodedOutcome, rows_of_job}
 use Rattle.xs_enc_lanes.specs.Finished.{GotEachOnce, StoresPicture}
 use Rattle.xs_enc_lanes.specs.Placed.{AllCarry, CarriesIn}
 use Rattle.xs_enc_lanes.specs.Rows.{Carried, CarriesRows, HasComponent, component_in, is_last, parts, slice_of}
-use Rattle.xs_enc_lanes.specs.Working.{FilesNothing, Goes, HasAll, HasSwept, IsFiled, SweepsTo}
+use Rattle.xs_enc_lanes.specs.Working.{FilesNothing, Goes, HasAllFiled, HasSwept, IsFiled, SweepsTo}
 use Rattle.xs_enc_lanes.proofs.Claiming.{alone_still}
 use Rattle.xs_enc_lanes.proofs.Keeping.{run_lane}
 
@@ -81,7 +81,7 @@ filed_same : (v w : Actor Carried) (slice component : ℕ) → FilesNothing v w 
 filed_same v w slice component files (inl some) = inl (subst (λ l. 0 < sum_by (at parts slice component) l) (sym files.stored) some)
 filed_same v w slice component files (inr has) = inr (subst (λ l. Contains l (slice, component)) (sym files.repeated) has)
 
-pub swept_of : (job : Job) (a b : Activity) → HasAll job a → IsAlone (view a.pass) → Goes job a b → SweepsTo (slice_count job.header.now) a b → b.starved ≡ false → HasSwept job b
+pub swept_of : (job : Job) (a b : Activity) → HasAllFiled job a → IsAlone (view a.pass) → Goes job a b → SweepsTo (slice_count job.header.now) a b → b.starved ≡ false → HasSwept job b
 swept_of job a b all alone goes sweeps sated = record {
   ready = goes.ready;
   alone = alone_still (view a.pass) (view b.pass) goes.share alone;
@@ -164,11 +164,11 @@ module _ (job : Job) (a : Activity) (swept : HasSwept job a) (done : IsDone part
       All-weaker (Contains values) (λ (x : Carried). CarriesIn h slice x rows)
       (λ x has. carries_in h rows slice x (All-contains (CarriesRows h rows) values x (values_carry values from) has) (All-contains (λ (y : Carried). slice_of y ≡ slice) values x (run_lane parts slice 0 values run) has)) values (All-contains_itself values)
 
-  outcome_right : (c : CodedSlice) → IsCodedOf job v.got c → IsOutcome h rows job.share job.fill c.slice c.outcome
+  outcome_right : (c : CodedSlice) → IsCodedOf job v.got c → IsCodedOutcome h rows job.share job.fill c.slice c.outcome
   outcome_right c is = is.coded rows padded (all_carry c.slice is.values is.run is.from) (run_covers h rows c.slice is.values is.run (values_carry is.values is.from))
 
   pub are_sliced : AreSliced h rows job.share job.fill a.kept.items
-  are_sliced = record { each = slice_kept; right = All-weaker (IsCodedOf job v.got) (λ (c : CodedSlice). IsOutcome h rows job.share job.fill c.slice c.outcome) outcome_right a.kept.items swept.ready.keeps.coded }
+  are_sliced = record { each = slice_kept; right = All-weaker (IsCodedOf job v.got) (λ (c : CodedSlice). IsCodedOutcome h rows job.share job.fill c.slice c.outcome) outcome_right a.kept.items swept.ready.keeps.coded }
 
   pub got_once : GotEachOnce h v
   got_once slice component there below =

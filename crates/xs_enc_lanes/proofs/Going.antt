@@ -8,12 +8,12 @@ use Rattle.xs_enc_lanes.specs.declared.activity.Activity.{Activity}
 use Rattle.xs_enc_lanes.specs.declared.activity.Job.{Job}
 use Rattle.xs_enc_lanes.specs.Coded.{HasAdded, Keeps}
 use Rattle.xs_enc_lanes.specs.Rows.{Carried, parts}
-use Rattle.xs_enc_lanes.specs.Working.{FilesNothing, GetsMore, Goes, IsReady}
+use Rattle.xs_enc_lanes.specs.Working.{FilesNothing, GetsMore, Goes, IsReadyToCode}
 use Rattle.xs_enc_lanes.proofs.Claiming.{got_values, more_none}
 use Rattle.xs_enc_lanes.proofs.Keeping.{keeps_added, keeps_same, starves, starves_here}
 
 -- memory was wanting before a claim
-pub goes_starved : (job : Job) (a b : Activity) → b.pass ≡ a.pass → b.role ≡ a.role → b.kept ≡ a.kept → b.starved ≡ true → IsReady job a → Goes job a b
+pub goes_starved : (job : Job) (a b : Activity) → b.pass ≡ a.pass → b.role ≡ a.role → b.kept ≡ a.kept → b.starved ≡ true → IsReadyToCode job a → Goes job a b
 goes_starved job a b pass role kept starved ready = record {
   ready = record {
     pass = subst (IsPassOf job.lanes.now) (sym pass) ready.pass;
@@ -27,7 +27,7 @@ goes_starved job a b pass role kept starved ready = record {
 }
 
 -- a slice was got and coded
-pub goes_added : (job : Job) (a b : Activity) (slice : ℕ) (values : List Carried) → IsReady job a → IsPassOf job.lanes.now b.pass → SameShare (view a.pass) (view b.pass) → FilesNothing (view a.pass) (view b.pass) → slice < slice_count job.header.now
+pub goes_added : (job : Job) (a b : Activity) (slice : ℕ) (values : List Carried) → IsReadyToCode job a → IsPassOf job.lanes.now b.pass → SameShare (view a.pass) (view b.pass) → FilesNothing (view a.pass) (view b.pass) → slice < slice_count job.header.now
     → HasGot parts (view a.pass) slice values (view b.pass) → HasAdded job slice values a.kept.items b.kept.items → b.role ≡ a.role → b.starved ≡ a.starved → Goes job a b
 goes_added job a b slice values ready pass share files there got added role same = record {
   ready = record {
@@ -43,7 +43,7 @@ goes_added job a b slice values ready pass share files there got added role same
 }
 
 -- memory was wanting after a claim
-pub goes_lost : (job : Job) (a b : Activity) → IsReady job a → IsPassOf job.lanes.now b.pass → SameShare (view a.pass) (view b.pass) → FilesNothing (view a.pass) (view b.pass) → GetsMore (view a.pass) (view b.pass) → b.kept.items ≡ a.kept.items → b.role ≡ a.role
+pub goes_lost : (job : Job) (a b : Activity) → IsReadyToCode job a → IsPassOf job.lanes.now b.pass → SameShare (view a.pass) (view b.pass) → FilesNothing (view a.pass) (view b.pass) → GetsMore (view a.pass) (view b.pass) → b.kept.items ≡ a.kept.items → b.role ≡ a.role
     → b.starved ≡ true → Goes job a b
 goes_lost job a b ready pass share files grows kept role starved = record {
   ready = record {
@@ -58,7 +58,7 @@ goes_lost job a b ready pass share files grows kept role starved = record {
 }
 
 -- nothing was got
-pub goes_told : (job : Job) (a b : Activity) → IsReady job a → IsPassOf job.lanes.now b.pass → SameShare (view a.pass) (view b.pass) → FilesNothing (view a.pass) (view b.pass) → (view b.pass).got ≡ (view a.pass).got → b.kept.items ≡ a.kept.items → b.role ≡ a.role
+pub goes_told : (job : Job) (a b : Activity) → IsReadyToCode job a → IsPassOf job.lanes.now b.pass → SameShare (view a.pass) (view b.pass) → FilesNothing (view a.pass) (view b.pass) → (view b.pass).got ≡ (view a.pass).got → b.kept.items ≡ a.kept.items → b.role ≡ a.role
     → b.starved ≡ a.starved → Goes job a b
 goes_told job a b ready pass share files got kept role same = record {
   ready = record {

@@ -9,7 +9,7 @@ use Rattle.xs_params.specs.declared.header.Header.{Header}
 use Rattle.xs_params.specs.Geometry.{slice_count}
 use Rattle.xs_params.specs.Rows.{Rows}
 use Rattle.xs_enc_lanes.specs.declared.activity.CodedSlice.{CodedSlice}
-use Rattle.xs_enc_lanes.specs.Coded.{HasSlice, IsOutcome}
+use Rattle.xs_enc_lanes.specs.Coded.{HasSlice, IsCodedOutcome}
 use Rattle.xs_enc_lanes.specs.Answered.{AreAllThere, AreInOrder, AreRight, AreSliced}
 
 abbrev IsSliceAt : List CodedSlice → ℕ → Option CodedSlice → Type 0
@@ -70,10 +70,10 @@ module _ (kept : List CodedSlice) (count : ℕ) (places : List (Option CodedSlic
 
 -- All slices are there, and each is right
 
-right_at : (h : Header) (rows : Rows) (share : ℕ) (fill : Bool) (kept : List CodedSlice) (slice : ℕ) (o : Option CodedSlice) → All (λ (c : CodedSlice). IsOutcome h rows share fill c.slice c.outcome) kept → IsSliceAt kept slice o
-    → IfSome o (λ (c : CodedSlice). IsOutcome h rows share fill slice c.outcome)
+right_at : (h : Header) (rows : Rows) (share : ℕ) (fill : Bool) (kept : List CodedSlice) (slice : ℕ) (o : Option CodedSlice) → All (λ (c : CodedSlice). IsCodedOutcome h rows share fill c.slice c.outcome) kept → IsSliceAt kept slice o
+    → IfSome o (λ (c : CodedSlice). IsCodedOutcome h rows share fill slice c.outcome)
 right_at h rows share fill kept slice None all at = tt
-right_at h rows share fill kept slice (Some c) all at = subst (λ k. IsOutcome h rows share fill k c.outcome) at.1 (All-contains (λ (x : CodedSlice). IsOutcome h rows share fill x.slice x.outcome) kept c all at.0)
+right_at h rows share fill kept slice (Some c) all at = subst (λ k. IsCodedOutcome h rows share fill k c.outcome) at.1 (All-contains (λ (x : CodedSlice). IsCodedOutcome h rows share fill x.slice x.outcome) kept c all at.0)
 
 module _ (h : Header) (rows : Rows) (share : ℕ) (fill : Bool) (kept : List CodedSlice) (places : List (Option CodedSlice)) (sliced : AreSliced h rows share fill kept) (order : AreInOrder kept (slice_count h) places) where
   pub all_right : AreRight h rows share fill places

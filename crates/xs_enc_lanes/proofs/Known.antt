@@ -32,7 +32,8 @@ use Rattle.xs_wave.specs.Bands.{band_count, type_at, columns_in}
 use Rattle.xs_wave.specs.Planes.{HasSize}
 use Rattle.xs_wave.proofs.Splits.{high_columns, low_columns}
 use Rattle.xs_wave.proofs.Types.{deep_side, all_counted}
-use Rattle.xs_picture.specs.Analysed.{AreComponentBandsOf, component_split, IsGiven, IsSplitUp, folded_row, numbers_of, rows_by_type, rows_of_level}
+use Rattle.xs_stripe.specs.Joined.{component_split}
+use Rattle.xs_picture.specs.Analysed.{AreComponentBandsOf, IsGiven, IsSplitUp, folded_row, numbers_of, rows_by_type, rows_of_level}
 use Rattle.xs_picture.specs.declared.encode.analysis.Component.{Component}
 use Rattle.xs_picture.proofs.BandTypes.{at_level, component_split_up, each_type}
 use Rattle.xs_picture.proofs.Folded.{component_there, each_plane}

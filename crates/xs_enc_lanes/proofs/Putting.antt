@@ -17,8 +17,8 @@ use Rattle.xs_geometry.specs.Laws.{IsWritten}
 use Rattle.xs_geometry.specs.Written.{with_row}
 use Rattle.xs_geometry.proofs.WrittenRows.{row_written, lines_kept}
 use Rattle.xs_rate.specs.Laws.{AreSmall, IsSmallRow}
-use Rattle.xs_enc_lanes.specs.Rows.{Carried, HasComponent, IsSliceLine, component_in, row_in}
-use Rattle.xs_enc_lanes.specs.Placed.{AllCarry, AreGathered, ArePut, CarriesIn, EachSmall, IsOfBand, IsOfValue, IsRowOf, IsRowPut}
+use Rattle.xs_enc_lanes.specs.Rows.{Carried, HasComponent, IsSliceLine, component_in, row_of_component}
+use Rattle.xs_enc_lanes.specs.Placed.{AllCarry, AreGathered, AreRowsPut, CarriesIn, EachSmall, IsOfBand, IsOfValue, IsRowOf, IsRowPut}
 
 -- Lines
 
@@ -46,15 +46,15 @@ line_of h slice bands band line are has =
 -- One row
 
 pub put_none : (h : Header) (slice : ℕ) (A : Rows → Type 0) (bands : List BandLines) (done : ℕ → ℕ → Type 0) → AreLinesOf h slice bands → EachSmall bands → ((band line : ℕ) → IsSliceLine h slice band line → done band line → ⊥)
-    → ArePut h slice A bands bands done
+    → AreRowsPut h slice A bands bands done
 put_none h slice A bands done are small none = record { lines = are; small = small; kept = λ rows a band line is here. here; theirs = λ rows a band line is d. absurd (none band line is d) }
 
-pub put_weaker : (h : Header) (slice : ℕ) (A : Rows → Type 0) (old new : List BandLines) (done more : ℕ → ℕ → Type 0) → ((band line : ℕ) → IsSliceLine h slice band line → more band line → done band line) → ArePut h slice A old new done → ArePut h slice A old new more
+pub put_weaker : (h : Header) (slice : ℕ) (A : Rows → Type 0) (old new : List BandLines) (done more : ℕ → ℕ → Type 0) → ((band line : ℕ) → IsSliceLine h slice band line → more band line → done band line) → AreRowsPut h slice A old new done → AreRowsPut h slice A old new more
 put_weaker h slice A old new done more less p = record { lines = p.lines; small = p.small; kept = p.kept; theirs = λ rows a band line is m. p.theirs rows a band line is (less band line is m) }
 
-pub put_more : (h : Header) (slice band line : ℕ) (A : Rows → Type 0) (old now next : List BandLines) (row : List ℤ) (done more : ℕ → ℕ → Type 0) → ArePut h slice A old now done → HasLine now band line → IsSmallRow (entries_of row)
+pub put_more : (h : Header) (slice band line : ℕ) (A : Rows → Type 0) (old now next : List BandLines) (row : List ℤ) (done more : ℕ → ℕ → Type 0) → AreRowsPut h slice A old now done → HasLine now band line → IsSmallRow (entries_of row)
     → IsRowPut now band line row next → ((rows : Rows) → A rows → row ≡ map (rows band line) (upto (band_width_of h band)))
-    → ((b l : ℕ) → IsSliceLine h slice b l → more b l → done b l ⊎ ((b ≡ band) × (l ≡ line))) → ArePut h slice A old next more
+    → ((b l : ℕ) → IsSliceLine h slice b l → more b l → done b l ⊎ ((b ≡ band) × (l ≡ line))) → AreRowsPut h slice A old next more
 put_more h slice band line A old now next row done more before here low put shows either = by (cases_eq (length row) (length (row_at now band line)))
   where
     wide : (rows : Rows) → A rows → length row ≡ length (row_at now band line)
@@ -85,14 +85,14 @@ put_more h slice band line A old now next row done more before here low put show
     here_is : (rows : Rows) (b l : ℕ) → A rows → b ≡ band → l ≡ line → IsRowOf h rows new b l
     here_is rows b l a e f = subst (λ k. IsRowOf h rows new k l) (sym e) (subst (λ k. IsRowOf h rows new band k) (sym f) (written.here ∙ shows rows a))
 
-    by : (length row ≡ length (row_at now band line)) ⊎ (length row ≢ length (row_at now band line)) → ArePut h slice A old next more
-    by (inl whole) = subst (λ n. ArePut h slice A old n more) (sym (put.whole whole)) (record {
+    by : (length row ≡ length (row_at now band line)) ⊎ (length row ≢ length (row_at now band line)) → AreRowsPut h slice A old next more
+    by (inl whole) = subst (λ n. AreRowsPut h slice A old n more) (sym (put.whole whole)) (record {
       lines = lines_kept h slice now band line row before.lines here whole;
       small = λ b l has. at b l (λ r. IsSmallRow (entries_of r)) ((written.same_lines b l).0 has) (λ e f. low) (before.small b l ((written.same_lines b l).0 has));
       kept = λ rows a b l is was. is_row rows b l a is (before.kept rows a b l is was);
       theirs = λ rows a b l is m. elim (either b l is m) [ inl d ↦ is_row rows b l a is (before.theirs rows a b l is d) | inr same ↦ here_is rows b l a same.0 same.1 ];
     })
-    by (inr other) = subst (λ n. ArePut h slice A old n more) (sym (put.other other)) (record {
+    by (inr other) = subst (λ n. AreRowsPut h slice A old n more) (sym (put.other other)) (record {
       lines = before.lines;
       small = before.small;
       kept = before.kept;
@@ -100,8 +100,8 @@ put_more h slice band line A old now next row done more before here low put show
     })
 
 -- rows that were put one after the other
-pub put_after : (h : Header) (slice : ℕ) (A : Rows → Type 0) (old now next : List BandLines) (done first more : ℕ → ℕ → Type 0) → ArePut h slice A old now done → ArePut h slice A now next first
-    → ((b l : ℕ) → IsSliceLine h slice b l → more b l → done b l ⊎ first b l) → ArePut h slice A old next more
+pub put_after : (h : Header) (slice : ℕ) (A : Rows → Type 0) (old now next : List BandLines) (done first more : ℕ → ℕ → Type 0) → AreRowsPut h slice A old now done → AreRowsPut h slice A now next first
+    → ((b l : ℕ) → IsSliceLine h slice b l → more b l → done b l ⊎ first b l) → AreRowsPut h slice A old next more
 put_after h slice A old now next done first more before after either = record {
   lines = after.lines;
   small = after.small;
@@ -111,14 +111,14 @@ put_after h slice A old now next done first more before after either = record {
 
 -- Bands, one after the other
 
-pub band_put : (h : Header) (slice band : ℕ) (v : Carried) (old now next : List BandLines) → ArePut h slice (CarriesIn h slice v) old now (λ (b l : ℕ). (band_component h b ≡ component_in v) × (b < band)) → ArePut h slice (CarriesIn h slice v) now next (IsOfBand band)
-    → ArePut h slice (CarriesIn h slice v) old next (λ (b l : ℕ). (band_component h b ≡ component_in v) × (b < band + 1))
+pub band_put : (h : Header) (slice band : ℕ) (v : Carried) (old now next : List BandLines) → AreRowsPut h slice (CarriesIn h slice v) old now (λ (b l : ℕ). (band_component h b ≡ component_in v) × (b < band)) → AreRowsPut h slice (CarriesIn h slice v) now next (IsOfBand band)
+    → AreRowsPut h slice (CarriesIn h slice v) old next (λ (b l : ℕ). (band_component h b ≡ component_in v) × (b < band + 1))
 band_put h slice band v old now next before put = put_after h slice (CarriesIn h slice v) old now next (λ (b l : ℕ). (band_component h b ≡ component_in v) × (b < band)) (IsOfBand band) (λ (b l : ℕ). (band_component h b ≡ component_in v) × (b < band + 1)) before put
     (λ b l is d. elim (cases_eq b band) [ inl same ↦ inr same | inr other ↦ inl (d.0, (let below = d.1 in omega (arith, below, other))) ])
 
 -- a band of another component
-pub band_past : (h : Header) (slice band : ℕ) (v : Carried) (old now : List BandLines) → band_component h band ≢ component_in v → ArePut h slice (CarriesIn h slice v) old now (λ (b l : ℕ). (band_component h b ≡ component_in v) × (b < band))
-    → ArePut h slice (CarriesIn h slice v) old now (λ (b l : ℕ). (band_component h b ≡ component_in v) × (b < band + 1))
+pub band_past : (h : Header) (slice band : ℕ) (v : Carried) (old now : List BandLines) → band_component h band ≢ component_in v → AreRowsPut h slice (CarriesIn h slice v) old now (λ (b l : ℕ). (band_component h b ≡ component_in v) × (b < band))
+    → AreRowsPut h slice (CarriesIn h slice v) old now (λ (b l : ℕ). (band_component h b ≡ component_in v) × (b < band + 1))
 band_past h slice band v old now apart before = put_weaker h slice (CarriesIn h slice v) old now (λ (b l : ℕ). (band_component h b ≡ component_in v) × (b < band)) (λ (b l : ℕ). (band_component h b ≡ component_in v) × (b < band + 1))
     (λ b l is d. elim (cases_eq b band) [ inl same ↦ absurd (apart (ap (band_component h) (sym same) ∙ d.0)) | inr other ↦ (d.0, (let below = d.1 in omega (arith, below, other))) ]) before
 
@@ -139,7 +139,7 @@ gathered_none h slice bands are blank = record {
     nothing : (c : ℕ) → HasComponent [] c → ⊥
     nothing c (v, (i, lt, e), is) = absurd (omega (arith, lt))
 
-pub gathered_more : (h : Header) (slice : ℕ) (values all : List Carried) (v : Carried) (now next : List BandLines) → all ≡ values ++ v ∷ [] → AreGathered h slice values now → ArePut h slice (CarriesIn h slice v) now next (IsOfValue h v)
+pub gathered_more : (h : Header) (slice : ℕ) (values all : List Carried) (v : Carried) (now next : List BandLines) → all ≡ values ++ v ∷ [] → AreGathered h slice values now → AreRowsPut h slice (CarriesIn h slice v) now next (IsOfValue h v)
     → AreGathered h slice all next
 gathered_more h slice values all v now next e before put = subst (λ l. AreGathered h slice l next) (sym e) (record {
   lines = put.lines;
@@ -188,8 +188,8 @@ small_held bands small band line column = by_band (cases_lt band (length bands))
 -- The row that a value has
 
 pub carries_row : (h : Header) (slice : ℕ) (v : Carried) (rows : Rows) (band line : ℕ) → CarriesIn h slice v rows → IsSliceLine h slice band line → band_component h band ≡ component_in v
-    → row_in v (band / components_of h.shape.format) (line - first_line_of h slice band) ≡ map (rows band line) (upto (band_width_of h band))
+    → row_of_component v (band / components_of h.shape.format) (line - first_line_of h slice band) ≡ map (rows band line) (upto (band_width_of h band))
 carries_row h slice None rows band line c is of = absurd c
 carries_row h slice (Some x) rows band line (c, e) is of =
-    subst (λ k. row_in (Some x) (band / components_of h.shape.format) (line - first_line_of h k band) ≡ map (rows band line) (upto (band_width_of h band))) e
+    subst (λ k. row_of_component (Some x) (band / components_of h.shape.format) (line - first_line_of h k band) ≡ map (rows band line) (upto (band_width_of h band))) e
     (c.row band line (subst (λ k. IsSliceLine h k band line) (sym e) is) of)

@@ -10,8 +10,8 @@ use Rattle.xs_picture.specs.Encoded.{AreSlicesOf, WhyUnwritten}
 use Rattle.xs_picture.specs.Local.{IsWrittenAlike}
 use Rattle.xs_picture.proofs.Encoded.{AreSlicesTo, slices_all, slices_more, why_unwritten}
 use Rattle.xs_enc_lanes.specs.declared.activity.CodedSlice.{CodedSlice}
-use Rattle.xs_enc_lanes.specs.declared.activity.Outcome.TheVariants.{Bytes, Over}
-use Rattle.xs_enc_lanes.specs.Coded.{IsOutcome}
+use Rattle.xs_enc_lanes.specs.declared.activity.CodedOutcome.TheVariants.{Bytes, Over}
+use Rattle.xs_enc_lanes.specs.Coded.{IsCodedOutcome}
 use Rattle.xs_enc_lanes.specs.Answered.{AreRight}
 
 -- the places past the one that is emptied are as before
@@ -26,17 +26,17 @@ WritesTo places n slices = (h : Header) (rows : Rows) (share : ℕ) (fill : Bool
 pub writes_none : (places : List (Option CodedSlice)) (slices : List (List ℕ)) → slices ≡ [] → WritesTo places 0 slices
 writes_none places slices e h rows share fill right = subst (AreSlicesTo h rows share fill 0) (sym e) (record { count = refl; each = λ slice inside. absurd (omega (arith, inside)) })
 
-outcome_at : (h : Header) (rows : Rows) (share : ℕ) (fill : Bool) (slice : ℕ) (o : Option CodedSlice) (c : CodedSlice) → o ≡ Some c → IfSome o (λ (x : CodedSlice). IsOutcome h rows share fill slice x.outcome) → IsOutcome h rows share fill slice c.outcome
+outcome_at : (h : Header) (rows : Rows) (share : ℕ) (fill : Bool) (slice : ℕ) (o : Option CodedSlice) (c : CodedSlice) → o ≡ Some c → IfSome o (λ (x : CodedSlice). IsCodedOutcome h rows share fill slice x.outcome) → IsCodedOutcome h rows share fill slice c.outcome
 outcome_at h rows share fill slice None c e right = absurd (cc e)
-outcome_at h rows share fill slice (Some x) c e right = let same : x ≡ c = cc e in subst (λ (y : CodedSlice). IsOutcome h rows share fill slice y.outcome) same right
+outcome_at h rows share fill slice (Some x) c e right = let same : x ≡ c = cc e in subst (λ (y : CodedSlice). IsCodedOutcome h rows share fill slice y.outcome) same right
 
-pub outcome_of : (h : Header) (rows : Rows) (share : ℕ) (fill : Bool) (places : List (Option CodedSlice)) (slice : ℕ) (c : CodedSlice) → AreRight h rows share fill places → slice < length places → get_or places slice None ≡ Some c → IsOutcome h rows share fill slice c.outcome
+pub outcome_of : (h : Header) (rows : Rows) (share : ℕ) (fill : Bool) (places : List (Option CodedSlice)) (slice : ℕ) (c : CodedSlice) → AreRight h rows share fill places → slice < length places → get_or places slice None ≡ Some c → IsCodedOutcome h rows share fill slice c.outcome
 outcome_of h rows share fill places slice c right inside e = let size = right.size in outcome_at h rows share fill slice (get_or places slice None) c e (right.right slice (omega (arith, inside, size)))
 
 pub writes_more : (places : List (Option CodedSlice)) (slice : ℕ) (slices next : List (List ℕ)) (bytes : List ℕ) (c : CodedSlice) → slice < length places → get_or places slice None ≡ Some c → c.outcome ≡ Bytes bytes → next ≡ slices ++ bytes ∷ []
     → WritesTo places slice slices → WritesTo places (slice + 1) next
 writes_more places slice slices next bytes c inside at is more before h rows share fill right =
-    slices_more h rows share fill slice slices next bytes more (subst (IsOutcome h rows share fill slice) is (outcome_of h rows share fill places slice c right inside at)) (before h rows share fill right)
+    slices_more h rows share fill slice slices next bytes more (subst (IsCodedOutcome h rows share fill slice) is (outcome_of h rows share fill places slice c right inside at)) (before h rows share fill right)
 
 pub writes_all : (places : List (Option CodedSlice)) (n : ℕ) (slices : List (List ℕ)) → n ≡ length places → WritesTo places n slices → (h : Header) (rows : Rows) (share : ℕ) (fill : Bool) → AreRight h rows share fill places → AreSlicesOf h rows share fill slices
 writes_all places n slices all writes h rows share fill right = slices_all h rows share fill n slices (all ∙ right.size) (writes h rows share fill right)
@@ -48,4 +48,4 @@ pub over_is : (places : List (Option CodedSlice)) (slice : ℕ) (slices : List (
     → (h : Header) (rows : Rows) (share : ℕ) (fill : Bool) → AreRight h rows share fill places → WhyUnwritten h rows share (refusal.Budget budget)
 over_is places slice slices budget c inside at is before h rows share fill right =
     why_unwritten h rows rows share fill slice slices (refusal.Budget budget) (let size = right.size in omega (arith, inside, size)) (alike h slice rows) (before h rows share fill right)
-    (subst (IsOutcome h rows share fill slice) is (outcome_of h rows share fill places slice c right inside at))
+    (subst (IsCodedOutcome h rows share fill slice) is (outcome_of h rows share fill places slice c right inside at))

@@ -18,7 +18,7 @@ use Rattle.xs_enc_lanes.specs.declared.activity.Job.{Job}
 use Rattle.xs_enc_lanes.specs.declared.activity.Role.TheVariants.{Component, Coder}
 use Rattle.xs_enc_lanes.specs.Coded.{rows_of_job}
 use Rattle.xs_enc_lanes.specs.Rows.{Carried, CarriesRows, parts}
-use Rattle.xs_enc_lanes.specs.Working.{AreFiledTo, AreForked, AreJoined, FilesFor, HasAll, HasJoined, HasRole, HasRun, HasWorked, IsFiled, IsFresh, IsIdle, IsReady, IsRoleOf, Goes, MayJoin, StoresRows}
+use Rattle.xs_enc_lanes.specs.Working.{AreFiledTo, AreForked, AreJoined, FilesFor, HasAllFiled, HasJoined, HasRole, HasRun, HasWorked, IsFiled, IsUnusedPass, IsIdle, IsReadyToCode, IsRoleOf, Goes, MayJoin, StoresRows}
 use Rattle.xs_enc_lanes.proofs.Keeping.{keeps_joined, keeps_none}
 
 -- Lists
@@ -54,17 +54,17 @@ module _ {A : Type 0} where
 abbrev pub Pass : Type 0
 Pass = Seat (Option Carried) (Actor Carried)
 
-copied_fresh : (v : Actor Carried) → IsFresh (copied v)
+copied_fresh : (v : Actor Carried) → IsUnusedPass (copied v)
 copied_fresh v = record { stored = refl; repeated = refl; got = refl }
 
-half_fresh : (v : Actor Carried) → IsFresh v → IsFresh (halves v)
+half_fresh : (v : Actor Carried) → IsUnusedPass v → IsUnusedPass (halves v)
 half_fresh v f = record { stored = f.stored; repeated = f.repeated; got = f.got }
 
 pub forked_none : (lanes : Lanes Carried) (components : ℕ) (first : Pass) (others : List Activity) → IsPassOf lanes first → view first ≡ newcomer → others ≡ [] → AreForked lanes components first others
 forked_none lanes components first others pass e none = subst (AreForked lanes components first) (sym none) (record {
   pass = pass;
   share = subst (HasPart 0) (sym e) (refl, refl);
-  fresh = subst IsFresh (sym e) (record { stored = refl; repeated = refl; got = refl });
+  fresh = subst IsUnusedPass (sym e) (record { stored = refl; repeated = refl; got = refl });
   idle = All-nil (IsIdle lanes components);
   shares = λ i d lt. absurd (omega (arith, lt));
 })
@@ -74,8 +74,8 @@ pub forked_more : (lanes : Lanes Carried) (components : ℕ) (first now : Pass) 
 forked_more lanes components first now others all a e pass half theirs copy empty role f = subst (AreForked lanes components now) (sym e) (record {
   pass = pass;
   share = subst (λ n. HasPart n (view now)) more (subst (HasPart (length others + 1)) (sym half) shared.0);
-  fresh = subst IsFresh (sym half) (half_fresh (view first) f.fresh);
-  idle = All-push (IsIdle lanes components) others a f.idle (record { pass = theirs; fresh = subst IsFresh (sym copy) (copied_fresh (view first)); kept = empty; role = role });
+  fresh = subst IsUnusedPass (sym half) (half_fresh (view first) f.fresh);
+  idle = All-push (IsIdle lanes components) others a f.idle (record { pass = theirs; fresh = subst IsUnusedPass (sym copy) (copied_fresh (view first)); kept = empty; role = role });
   shares = pushes (λ i (x : Activity). HasPart (i + 1) (view x.pass)) others a f.shares (subst (HasPart (length others + 1)) (sym copy) shared.1);
 })
   where
@@ -109,7 +109,7 @@ ran_role : (job : Job) (old new : List Activity) (c : ℕ) → length new ≡ le
 ran_role job old new c size ran (a, (i, lt, e), is) =
     (get_or new i a, Contains-get_or new i a (omega (arith, lt, size)), (ran i a lt).role ∙ ap (λ (x : Activity). x.role) e ∙ is)
 
-pub are_joined : (job : Job) (a : Activity) (old new : List Activity) → length new ≡ length old → IsFresh (view a.pass) → a.kept.items ≡ []
+pub are_joined : (job : Job) (a : Activity) (old new : List Activity) → length new ≡ length old → IsUnusedPass (view a.pass) → a.kept.items ≡ []
     → ((i : ℕ) (d : Activity) → i < length old → HasRun job (get_or old i d) (get_or new i d)) → ((c : ℕ) → c < components_of job.header.now.shape.format → HasRole old c) → AreJoined job a new
 are_joined job a old new size fresh empty ran roles = record {
   stored = subst (All (CarriesRows job.header.now (rows_of_job job))) (sym fresh.stored) (All-nil (CarriesRows job.header.now (rows_of_job job)));
@@ -172,7 +172,7 @@ joined_one job a now old rest o e j f = record {
       | inr same ↦ inl (last c (ap (λ (z : Activity). z.role) same ∙ is))
     ]
 
-pub joined_all : (job : Job) (a : Activity) (others : List Activity) → length others ≡ 0 → AreJoined job a others → HasAll job a
+pub joined_all : (job : Job) (a : Activity) (others : List Activity) → length others ≡ 0 → AreJoined job a others → HasAllFiled job a
 joined_all job a others none f = record { stored = f.stored; keeps = f.keeps; files = λ sated c below. by c sated (f.files c below) }
   where
     by : (c : ℕ) → a.starved ≡ false → (a.starved ≡ false → AreFiledTo (slice_count job.header.now) c (view a.pass)) ⊎ HasRole others c → AreFiledTo (slice_count job.header.now) c (view a.pass)
@@ -187,7 +187,7 @@ not_some (suc n) none = absurd (none (omega arith))
 
 -- Who ran
 
-pub ready_idle : (job : Job) (components : ℕ) (a : Activity) → IsIdle job.lanes.now components a → IsReady job a
+pub ready_idle : (job : Job) (components : ℕ) (a : Activity) → IsIdle job.lanes.now components a → IsReadyToCode job a
 ready_idle job components a idle = record { pass = idle.pass; keeps = keeps_none job (view a.pass).got a.kept.items a.starved idle.fresh.got idle.kept }
 
 stores_none : (job : Job) (v : Actor Carried) → v.stored ≡ [] → StoresRows job v

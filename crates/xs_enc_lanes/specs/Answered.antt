@@ -5,17 +5,18 @@ use Rattle.xs_params.specs.declared.header.Header.{Header}
 use Rattle.xs_params.specs.Geometry.{slice_count}
 use Rattle.xs_params.specs.Rows.{Rows}
 use Rattle.xs_enc_lanes.specs.declared.activity.CodedSlice.{CodedSlice}
-use Rattle.xs_enc_lanes.specs.Coded.{HasSlice, IsOutcome}
+use Rattle.xs_enc_lanes.specs.Coded.{HasSlice, IsCodedOutcome}
 
 -- Each slice of the picture is kept, and what came of it is that of the coefficients.
 pub record AreSliced (h : Header) (rows : Rows) (share : ℕ) (fill : Bool) (kept : List CodedSlice) : Type 0 where
   pub each : (slice : ℕ) → slice < slice_count h → HasSlice kept slice
-  pub right : All (λ (c : CodedSlice). IsOutcome h rows share fill c.slice c.outcome) kept
+  pub right : All (λ (c : CodedSlice). IsCodedOutcome h rows share fill c.slice c.outcome) kept
 
 -- At each place of a slice stands what came of it.
 pub record AreRight (h : Header) (rows : Rows) (share : ℕ) (fill : Bool) (places : List (Option CodedSlice)) : Type 0 where
   pub size : length places ≡ slice_count h
-  pub right : (slice : ℕ) → slice < slice_count h → IfSome (slice_index_or places slice None) (λ (c : CodedSlice). IsOutcome h rows share fill slice c.outcome)
+  pub right : (slice : ℕ) → slice < slice_count h
+      → IfSome (slice_index_or places slice None) (λ (c : CodedSlice). IsCodedOutcome h rows share fill slice c.outcome)
 
 -- no place is empty
 abbrev pub AreAllThere : List (Option CodedSlice) → Type 0

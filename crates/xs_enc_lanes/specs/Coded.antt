@@ -13,8 +13,8 @@ use Rattle.xs_slice_write.specs.Written.{IsWrittenSlice}
 use Rattle.xs_lanes.specs.Claiming.{IsRun}
 use Rattle.xs_enc_lanes.specs.declared.activity.CodedSlice.{CodedSlice}
 use Rattle.xs_enc_lanes.specs.declared.activity.Job.{Job}
-use Rattle.xs_enc_lanes.specs.declared.activity.Outcome.{Outcome}
-use Rattle.xs_enc_lanes.specs.declared.activity.Outcome.TheVariants.{Bytes, Over}
+use Rattle.xs_enc_lanes.specs.declared.activity.CodedOutcome.{CodedOutcome}
+use Rattle.xs_enc_lanes.specs.declared.activity.CodedOutcome.TheVariants.{Bytes, Over}
 use Rattle.xs_enc_lanes.specs.Rows.{Carried, HasComponent, parts, slice_of}
 use Rattle.xs_enc_lanes.specs.Placed.{AllCarry}
 
@@ -31,18 +31,20 @@ abbrev pub rows_of_job : Job → Rows
 rows_of_job job = rows_of_picture job.header.now job.picture.now
 
 -- what is written of the coefficients for a slice, or the budget that it is over
-abbrev pub IsOutcome : Header → Rows → ℕ → Bool → ℕ → Outcome → Type 0
-IsOutcome h rows share fill slice (Bytes bytes) = IsWrittenSlice h rows share fill slice bytes
-IsOutcome h rows share fill slice (Over budget) = choice_of h rows share slice ≡ Err budget
+abbrev pub IsCodedOutcome : Header → Rows → ℕ → Bool → ℕ → CodedOutcome → Type 0
+IsCodedOutcome h rows share fill slice (Bytes bytes) = IsWrittenSlice h rows share fill slice bytes
+IsCodedOutcome h rows share fill slice (Over budget) = choice_of h rows share slice ≡ Err budget
 
 -- past a band's width the coefficients are 0
 abbrev pub ArePadded : Header → Rows → Type 0
 ArePadded h rows = (band line column : ℕ) → band_width_of h band ≤ column → rows band line column ≡ pos 0
 
 -- Where the values are of the slice and have the rows of coefficients for each component, it is what comes of these.
-abbrev pub IsCodedFrom : Job → ℕ → List Carried → Outcome → Type 0
+abbrev pub IsCodedFrom : Job → ℕ → List Carried → CodedOutcome → Type 0
 IsCodedFrom job slice values outcome =
-    (rows : Rows) → ArePadded job.header.now rows → AllCarry job.header.now slice values rows → ((component : ℕ) → component < components_of job.header.now.shape.format → HasComponent values component) → IsOutcome job.header.now rows job.share job.fill slice outcome
+    (rows : Rows) → ArePadded job.header.now rows → AllCarry job.header.now slice values rows
+    → ((component : ℕ) → component < components_of job.header.now.shape.format → HasComponent values component)
+    → IsCodedOutcome job.header.now rows job.share job.fill slice outcome
 
 -- The slice was coded from values of its lane from the first place to the one that closes it, all of which were got.
 pub record IsCodedOf (job : Job) (got : List Carried) (c : CodedSlice) : Type 0 where
@@ -63,4 +65,5 @@ pub record Keeps (job : Job) (got : List Carried) (kept : List CodedSlice) (star
 
 -- one slice more is kept, coded from these values
 abbrev pub HasAdded : Job → ℕ → List Carried → List CodedSlice → List CodedSlice → Type 0
-HasAdded job slice values before now = (outcome : Outcome) × IsCodedFrom job slice values outcome × (now ≡ before ++ (record { slice = slice; outcome = outcome }) ∷ [])
+HasAdded job slice values before now =
+    (outcome : CodedOutcome) × IsCodedFrom job slice values outcome × (now ≡ before ++ (record { slice = slice; outcome = outcome }) ∷ [])

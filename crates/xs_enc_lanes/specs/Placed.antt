@@ -25,7 +25,7 @@ pub record IsRowPut (old : List BandLines) (band line : ℕ) (row : List ℤ) (n
 
 -- Rows were put into those of a slice. Whatever the coefficients are of which A holds: what was theirs still is, and so is
 -- each line that is done.
-pub record ArePut (h : Header) (slice : ℕ) (A : Rows → Type 0) (old new : List BandLines) (done : ℕ → ℕ → Type 0) : Type 0 where
+pub record AreRowsPut (h : Header) (slice : ℕ) (A : Rows → Type 0) (old new : List BandLines) (done : ℕ → ℕ → Type 0) : Type 0 where
   pub lines : AreLinesOf h slice new
   pub small : EachSmall new
   pub kept : (rows : Rows) → A rows → (band line : ℕ) → IsSliceLine h slice band line → IsRowOf h rows old band line → IsRowOf h rows new band line

@@ -41,9 +41,9 @@ abbrev pub parts : Placing Carried
 parts = placing slice_of component_in is_last
 
 -- the row of a band's line, of which there may be none
-abbrev pub row_in : Carried → ℕ → ℕ → List ℤ
-row_in None number line = []
-row_in (Some x) number line = slice_index_or (slice_index_or x.bands number []) line []
+abbrev pub row_of_component : Carried → ℕ → ℕ → List ℤ
+row_of_component None number line = []
+row_of_component (Some x) number line = slice_index_or (slice_index_or x.bands number []) line []
 
 -- The line of the band is one of the slice's.
 pub record IsSliceLine (h : Header) (slice band line : ℕ) : Type 0 where
@@ -61,7 +61,8 @@ pub record Carries (h : Header) (rows : Rows) (x : RowsOf) : Type 0 where
   pub lines : (band : ℕ) → band < bands_of h → band_component h band ≡ x.component
       → first_line_of h x.slice band + length (slice_index_or x.bands (band / components_of h.shape.format) []) ≡ end_line_of h x.slice band
   pub row : (band line : ℕ) → IsSliceLine h x.slice band line → band_component h band ≡ x.component
-      → row_in (Some x) (band / components_of h.shape.format) (line - first_line_of h x.slice band) ≡ map (rows band line) (upto (band_width_of h band))
+      → row_of_component (Some x) (band / components_of h.shape.format) (line - first_line_of h x.slice band)
+      ≡ map (rows band line) (upto (band_width_of h band))
 
 abbrev pub CarriesRows : Header → Rows → Carried → Type 0
 CarriesRows h rows v = MatchOption v ⊥ (Carries h rows)

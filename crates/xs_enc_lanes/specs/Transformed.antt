@@ -7,7 +7,7 @@ use Rattle.xs_params.specs.Geometry.{band_component, band_type_of, bands_of, com
 use Rattle.xs_geometry.specs.SliceLines.{end_line_of, first_line_of}
 use Rattle.xs_splitter.specs.declared.splitter.Splitter.{Splitter}
 use Rattle.xs_picture.specs.declared.encode.analysis.Component.{Component}
-use Rattle.xs_picture.specs.declared.encode.colours.ColourRows.{ColourRows}
+use Rattle.xs_picture.specs.declared.encode.colours.DifferenceRows.{DifferenceRows}
 use Rattle.xs_picture.specs.Analysed.{IsGiven, IsSplitUp, folded_row, rows_by_type}
 use Rattle.xs_enc_lanes.specs.declared.lines.LineRows.{LineRows}
 use Rattle.xs_enc_lanes.specs.declared.lines.LineRows.TheVariants.{Samples, Colours}
@@ -21,16 +21,16 @@ pub record IsComponentOf (c : Component) : Type 0 where
   pub there : c.number < components_of c.header.now.shape.format
 
 -- of the rows of three colours that of one, by the number of its component
-abbrev pub colour_in : ℕ → ColourRows → List ℤ
+abbrev pub colour_in : ℕ → DifferenceRows → List ℤ
 colour_in component rows = if nat_eq component 0 then rows.luma.items else (if nat_eq component 1 then rows.first.items else rows.second.items)
 
 -- the numbers of a component's line
-abbrev pub numbers_in : ℕ → LineRows → List ℤ
-numbers_in component (Samples row) = row.items
-numbers_in component (Colours rows) = colour_in component rows
+abbrev pub numbers_of_rows : ℕ → LineRows → List ℤ
+numbers_of_rows component (Samples row) = row.items
+numbers_of_rows component (Colours rows) = colour_in component rows
 
 -- the rows of three colours have this width
-pub record HaveWidth (width : ℕ) (rows : ColourRows) : Type 0 where
+pub record HaveLineWidth (width : ℕ) (rows : DifferenceRows) : Type 0 where
   pub luma : length rows.luma.items ≡ width
   pub first : length rows.first.items ≡ width
   pub second : length rows.second.items ≡ width
@@ -38,7 +38,7 @@ pub record HaveWidth (width : ℕ) (rows : ColourRows) : Type 0 where
 -- the lines of the component can be made in the rows
 abbrev pub FitLines : Component → LineRows → Type 0
 FitLines c (Samples row) = (c.header.now.colour ≡ false) × (length row.items ≡ component_width c.header.now c.number)
-FitLines c (Colours rows) = (c.header.now.colour ≡ true) × HaveWidth c.header.now.shape.width rows
+FitLines c (Colours rows) = (c.header.now.colour ≡ true) × HaveLineWidth c.header.now.shape.width rows
 
 -- so many of its rows were taken, or all
 pub record IsUnderWay (c : Component) (t : Transform) : Type 0 where

@@ -35,7 +35,7 @@ abbrev pub GetsMore : Actor Carried → Actor Carried → Type 0
 GetsMore v w = (values : List Carried) × (w.got ≡ v.got ++ values)
 
 -- the pass did nothing
-pub record IsFresh (v : Actor Carried) : Type 0 where
+pub record IsUnusedPass (v : Actor Carried) : Type 0 where
   pub stored : v.stored ≡ []
   pub repeated : v.repeated ≡ []
   pub got : v.got ≡ []
@@ -67,7 +67,7 @@ FilesFor job (Coder n) v = ⊤
 -- The activity has done nothing, and its component is one of so many.
 pub record IsIdle (lanes : Lanes Carried) (components : ℕ) (a : Activity) : Type 0 where
   pub pass : IsPassOf lanes a.pass
-  pub fresh : IsFresh (view a.pass)
+  pub fresh : IsUnusedPass (view a.pass)
   pub kept : a.kept.items ≡ []
   pub role : IsRoleOf components a.role
 
@@ -86,13 +86,13 @@ pub record HasRun (job : Job) (old new : Activity) : Type 0 where
   pub role : new.role ≡ old.role
 
 -- the pass is of the lanes, and what is kept was coded of what it got
-pub record IsReady (job : Job) (a : Activity) : Type 0 where
+pub record IsReadyToCode (job : Job) (a : Activity) : Type 0 where
   pub pass : IsPassOf job.lanes.now a.pass
   pub keeps : Keeps job (view a.pass).got a.kept.items a.starved
 
 -- The activity claims and codes, and does nothing else.
 pub record Goes (job : Job) (old new : Activity) : Type 0 where
-  pub ready : IsReady job new
+  pub ready : IsReadyToCode job new
   pub share : SameShare (view old.pass) (view new.pass)
   pub files : FilesNothing (view old.pass) (view new.pass)
   pub grows : GetsMore (view old.pass) (view new.pass)
@@ -109,7 +109,7 @@ HasRole others c = (a : Activity) × Contains others a × (a.role ≡ Component 
 pub record AreForked (lanes : Lanes Carried) (components : ℕ) (first : Seat (Option Carried) (Actor Carried)) (others : List Activity) : Type 0 where
   pub pass : IsPassOf lanes first
   pub share : HasPart (length others) (view first)
-  pub fresh : IsFresh (view first)
+  pub fresh : IsUnusedPass (view first)
   pub idle : All (IsIdle lanes components) others
   pub shares : (i : ℕ) (d : Activity) → i < length others → HasPart (i + 1) (view (slice_index_or others i d).pass)
 
@@ -135,7 +135,7 @@ pub record AreJoined (job : Job) (a : Activity) (others : List Activity) : Type 
   pub files : (c : ℕ) → c < components_of job.header.now.shape.format → (a.starved ≡ false → AreFiledTo (slice_count job.header.now) c (view a.pass)) ⊎ HasRole others c
 
 -- all slices of all components are filed by the activity
-pub record HasAll (job : Job) (a : Activity) : Type 0 where
+pub record HasAllFiled (job : Job) (a : Activity) : Type 0 where
   pub stored : StoresRows job (view a.pass)
   pub keeps : Keeps job (view a.pass).got a.kept.items a.starved
   pub files : a.starved ≡ false → (c : ℕ) → c < components_of job.header.now.shape.format → AreFiledTo (slice_count job.header.now) c (view a.pass)
@@ -156,7 +156,7 @@ Sweeps slice old new = IsAlone (view old.pass) → new.starved ≡ false → Got
 
 -- The activity has the whole share. All slices of all components are filed, each that is whole was got, and what came of it is kept.
 pub record HasSwept (job : Job) (a : Activity) : Type 0 where
-  pub ready : IsReady job a
+  pub ready : IsReadyToCode job a
   pub alone : IsAlone (view a.pass)
   pub sated : a.starved ≡ false
   pub stored : StoresRows job (view a.pass)

@@ -27,7 +27,7 @@ pub(crate) enum Role {
 
 // What came of a slice: its bytes, or that it is over its share.
 #[derive(Drop)]
-pub(crate) enum Outcome {
+pub(crate) enum CodedOutcome {
     Bytes(Octets),
     Over(Budget),
 }
@@ -36,7 +36,7 @@ pub(crate) enum Outcome {
 #[derive(Drop)]
 pub(crate) struct CodedSlice {
     pub(crate) slice: u32,
-    pub(crate) outcome: Outcome,
+    pub(crate) outcome: CodedOutcome,
 }
 
 // What one thread does: it files the rows of a component, or it claims slices and keeps what comes of them. Where memory was

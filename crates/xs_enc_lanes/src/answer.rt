@@ -5,7 +5,7 @@ ghost use Rattle.xs_params.specs.Rows.{Rows};
 ghost use Rattle.xs_picture.specs.Encoded.{AreSlicesOf, WhyUnwritten};
 ghost use Rattle.xs_enc_lanes.specs.Answered.{AreAllThere, AreInOrder, AreRight};
 
-use crate::activity::{CodedSlice, Outcome};
+use crate::activity::{CodedOutcome, CodedSlice};
 use std::alloc::Global;
 use xs_faults::SliceRefusal;
 use xs_io::{Memory, Octets};
@@ -80,8 +80,8 @@ pub(crate) fn bytes_of(
             unreachable!()
         };
         match coded.outcome {
-            Outcome::Bytes(bytes) => add(&mut slices, bytes)?,
-            Outcome::Over(budget) => return Err(SliceRefusal::Budget(budget)),
+            CodedOutcome::Bytes(bytes) => add(&mut slices, bytes)?,
+            CodedOutcome::Over(budget) => return Err(SliceRefusal::Budget(budget)),
         }
     }
     Ok(slices)

@@ -5,7 +5,7 @@ ghost use Rattle.xs_slice_write.specs.Coded.{HasSliceRoom};
 ghost use Rattle.xs_lanes.specs.Knowing.{SameShare};
 ghost use Rattle.xs_lanes.specs.Passes.{IsPassOf, view};
 ghost use Rattle.xs_enc_lanes.specs.Claimed.{Tells};
-ghost use Rattle.xs_enc_lanes.specs.Working.{FilesNothing, Goes, IsReady, IsWork, Sweeps};
+ghost use Rattle.xs_enc_lanes.specs.Working.{FilesNothing, Goes, IsReadyToCode, IsWork, Sweeps};
 
 use crate::activity::{Activity, Job, Room};
 use crate::code::add_slice;
@@ -52,7 +52,7 @@ impl Activity {
     pub(crate) fn sees_whole(&mut self, job: &Job<'_>, slice: u32) -> bool
         requires work { IsWork job.now }
         requires slice { slice < slice_count job.now.header.now }
-        requires ready { IsReady job.now self.old }
+        requires ready { IsReadyToCode job.now self.old }
         ensures goes { Goes job.now self.old self.new }
         ensures swept { result ≡ false → Sweeps slice self.old self.new }
     {
@@ -64,7 +64,7 @@ impl Activity {
         requires work { IsWork job.now }
         requires slice { slice < slice_count job.now.header.now }
         requires room { HasSliceRoom job.now.header.now room.old.scratch }
-        requires ready { IsReady job.now self.old }
+        requires ready { IsReadyToCode job.now self.old }
         ensures goes { Goes job.now self.old self.new }
         ensures room { HasSliceRoom job.now.header.now room.new.scratch }
         ensures swept { Sweeps slice self.old self.new }
@@ -85,7 +85,7 @@ impl Activity {
         requires work { IsWork job.now }
         requires slice { slice < slice_count job.now.header.now }
         requires room { HasSliceRoom job.now.header.now room.old.scratch }
-        requires ready { IsReady job.now self.old }
+        requires ready { IsReadyToCode job.now self.old }
         ensures goes { Goes job.now self.old self.new }
         ensures room { HasSliceRoom job.now.header.now room.new.scratch }
         ensures swept { Sweeps slice self.old self.new }

@@ -4,7 +4,7 @@ ghost use Rattle.xs_params.specs.Geometry.{slice_count};
 ghost use Rattle.xs_slice_write.specs.Coded.{HasSliceRoom};
 ghost use Rattle.xs_enc_lanes.specs.Coded.{HasAdded, IsCodedFrom, IsJob};
 
-use crate::activity::{CodedSlice, Job, Outcome, Room};
+use crate::activity::{CodedOutcome, CodedSlice, Job, Room};
 use crate::put::put_values;
 use crate::rows::ComponentRows;
 use std::alloc::Global;
@@ -33,7 +33,7 @@ fn code_slice(
     slice: u32,
     values: &[ComponentRows],
     room: &mut Room,
-) -> Result<Outcome, Memory>
+) -> Result<CodedOutcome, Memory>
     requires job { IsJob job.now }
     requires slice { slice < slice_count job.now.header.now }
     requires room { HasSliceRoom job.now.header.now room.old.scratch }
@@ -48,8 +48,8 @@ fn code_slice(
         fill: job.fill,
     };
     match write_slice_in(alloc, job.header, &wanted, &mut room.scratch) {
-        Ok(bytes) => Ok(Outcome::Bytes(bytes)),
-        Err(SliceRefusal::Budget(budget)) => Ok(Outcome::Over(budget)),
+        Ok(bytes) => Ok(CodedOutcome::Bytes(bytes)),
+        Err(SliceRefusal::Budget(budget)) => Ok(CodedOutcome::Over(budget)),
         Err(SliceRefusal::Memory) => Err(Memory),
     }
 }

@@ -3,7 +3,7 @@ ghost use Rattle.std.specs.Prelude.{◌≡◌, ◌++◌, length, true, false};
 ghost use Rattle.xs_lane_core.specs.Machine.{joined};
 ghost use Rattle.xs_lane_core.specs.Sound.{IsAlone};
 ghost use Rattle.xs_lanes.specs.Passes.{IsPassOf, view};
-ghost use Rattle.xs_enc_lanes.specs.Working.{AreJoined, HasAll, HasJoined, MayJoin};
+ghost use Rattle.xs_enc_lanes.specs.Working.{AreJoined, HasAllFiled, HasJoined, MayJoin};
 
 use crate::activity::{Activity, CodedSlice, Job};
 use crate::rows::ComponentRows;
@@ -44,7 +44,7 @@ impl Activity {
         requires joined { AreJoined job.now self.old others.items }
         ensures pass { IsPassOf job.now.lanes.now self.new.pass }
         ensures alone { IsAlone (view self.new.pass) }
-        ensures all { HasAll job.now self.new }
+        ensures all { HasAllFiled job.now self.new }
     {
         'gathering: while let Some(other) = others.pop() {
             self.absorb(job.lanes, other);

@@ -1,18 +1,18 @@
 // The numbers of a component's lines are made, each in place of the one before it.
 ghost use Rattle.std.specs.Prelude.{◌≡◌, ◌<◌, IfOk, length};
 ghost use Rattle.xs_picture.specs.Analysed.{IsLine};
-ghost use Rattle.xs_enc_lanes.specs.Transformed.{FitLines, IsComponentOf, numbers_in};
+ghost use Rattle.xs_enc_lanes.specs.Transformed.{FitLines, IsComponentOf, numbers_of_rows};
 
 use std::alloc::Global;
 use xs_io::Memory;
 use xs_params::component_width;
-use xs_picture::{ColourRows, Component, scale_line};
+use xs_picture::{Component, DifferenceRows, scale_line};
 
 // A row for scaled samples, or one for luma and for each difference: who makes one of these three makes them all.
 #[derive(Drop)]
 pub(crate) enum LineRows {
     Samples(Vec<i32>),
-    Colours(ColourRows),
+    Colours(DifferenceRows),
 }
 
 fn zeros(alloc: Global, width: usize) -> Result<Vec<i32>, Memory>
@@ -29,7 +29,7 @@ impl LineRows {
     {
         let width = component_width(&component.header.shape, component.number) as usize;
         if component.header.colour {
-            let rows = ColourRows::zeros(alloc, width)?;
+            let rows = DifferenceRows::zeros(alloc, width)?;
             Ok(LineRows::Colours(rows))
         } else {
             let row = zeros(alloc, width)?;
@@ -43,7 +43,7 @@ impl LineRows {
         requires fit { FitLines component self.old }
         requires line { line < component.header.now.shape.height }
         ensures fit { FitLines component.entry self.new }
-        ensures line { IsLine component.entry.header.now component.entry.picture.now component.entry.number line (numbers_in component.entry.number self.new) }
+        ensures line { IsLine component.entry.header.now component.entry.picture.now component.entry.number line (numbers_of_rows component.entry.number self.new) }
     {
         match self {
             LineRows::Samples(row) => scale_line(component, line, row.as_mut_slice()),
@@ -53,7 +53,7 @@ impl LineRows {
 
     // The numbers of the component with this number.
     pub(crate) fn numbers(&self, component: u32) -> &[i32]
-        ensures { result.now ≡ numbers_in component self.now }
+        ensures { result.now ≡ numbers_of_rows component self.now }
     {
         match self {
             LineRows::Samples(row) => row.as_slice(),

@@ -7,7 +7,7 @@ ghost use Rattle.xs_signal.specs.Lines.{entries_of};
 ghost use Rattle.xs_geometry.specs.SliceLines.{AreLinesOf, HasLine};
 ghost use Rattle.xs_rate.specs.Laws.{IsSmallRow};
 ghost use Rattle.xs_enc_lanes.specs.Rows.{component_in};
-ghost use Rattle.xs_enc_lanes.specs.Placed.{AreGathered, ArePut, CarriesIn, EachSmall, IsOfBand, IsOfValue, IsRowPut};
+ghost use Rattle.xs_enc_lanes.specs.Placed.{AreGathered, AreRowsPut, CarriesIn, EachSmall, IsOfBand, IsOfValue, IsRowPut};
 
 use crate::rows::ComponentRows;
 use xs_geometry::{Geometry, SliceRows};
@@ -40,7 +40,7 @@ fn put_band(got: &GotValue<'_>, band: u32, rows: &mut SliceRows)
     requires of { band_component got.now.header.now band ≡ component_in got.now.value.now }
     requires lines { AreLinesOf got.now.header.now got.now.slice rows.old }
     requires small { EachSmall rows.old }
-    ensures { ArePut got.now.header.now got.now.slice (CarriesIn got.now.header.now got.now.slice got.now.value.now) rows.old rows.new (IsOfBand band) }
+    ensures { AreRowsPut got.now.header.now got.now.slice (CarriesIn got.now.header.now got.now.slice got.now.value.now) rows.old rows.new (IsOfBand band) }
 {
     let number = band / got.header.shape.format.components();
     let (first, end) = rows.lines(band);
@@ -55,7 +55,7 @@ fn put_value(got: &GotValue<'_>, rows: &mut SliceRows)
     requires accepted { IsAccepted got.now.header.now }
     requires lines { AreLinesOf got.now.header.now got.now.slice rows.old }
     requires small { EachSmall rows.old }
-    ensures { ArePut got.now.header.now got.now.slice (CarriesIn got.now.header.now got.now.slice got.now.value.now) rows.old rows.new (IsOfValue got.now.header.now got.now.value.now) }
+    ensures { AreRowsPut got.now.header.now got.now.slice (CarriesIn got.now.header.now got.now.slice got.now.value.now) rows.old rows.new (IsOfValue got.now.header.now got.now.value.now) }
 {
     let components = got.header.shape.format.components();
     let component = got.value.component();

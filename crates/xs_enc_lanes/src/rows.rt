@@ -4,7 +4,7 @@ ghost use Rattle.xs_signal.specs.Fold.{IsFraction};
 ghost use Rattle.xs_signal.specs.Lines.{entries_of};
 ghost use Rattle.xs_rate.specs.Laws.{IsSmallRow};
 ghost use Rattle.xs_picture.specs.Analysed.{folded_row};
-ghost use Rattle.xs_enc_lanes.specs.Rows.{component_in, row_in};
+ghost use Rattle.xs_enc_lanes.specs.Rows.{component_in, row_of_component};
 
 use std::alloc::Global;
 use std::default::MadeWith;
@@ -51,11 +51,11 @@ impl CoefRow {
 
 // The rows of a band's lines in a slice, the first line first.
 #[derive(Drop)]
-pub(crate) struct BandRows {
+pub(crate) struct SliceBandRows {
     rows: Vec<CoefRow>,
 }
 
-impl Model for BandRows {
+impl Model for SliceBandRows {
     ghost use Rattle.std.specs.Prelude.{List, ℤ};
 
     ghost Value = { List (List ℤ) };
@@ -63,11 +63,11 @@ impl Model for BandRows {
     ghost view = { λ b. b.rows.items };
 }
 
-impl BandRows {
-    pub(crate) fn new(alloc: Global) -> BandRows
+impl SliceBandRows {
+    pub(crate) fn new(alloc: Global) -> SliceBandRows
         ensures { result ≡ [] }
     {
-        BandRows {
+        SliceBandRows {
             rows: Vec::new(alloc),
         }
     }
@@ -97,7 +97,7 @@ struct Part {
     slice: u32,
     component: u32,
     last: bool,
-    bands: Vec<BandRows>,
+    bands: Vec<SliceBandRows>,
 }
 
 /// One component's rows of coefficients of one slice, band after band. In the lanes its lane is the slice and its place the
@@ -163,7 +163,7 @@ impl ComponentRows {
         alloc: Global,
         place: (u32, u32),
         last: bool,
-        bands: Vec<BandRows>,
+        bands: Vec<SliceBandRows>,
     ) -> Result<ComponentRows, Memory>
         ensures { IfOk result (λ v. v ≡ Some (record { slice = place.0; component = place.1; last = last; bands = bands.items })) }
     {
@@ -188,7 +188,7 @@ impl ComponentRows {
     // The row of a line of the component's band with this number, the line counted from the slice's first. It is empty where
     // there is none.
     pub(crate) fn row(&self, number: usize, line: usize) -> &[i32]
-        ensures row { result.now ≡ row_in self.now number line }
+        ensures row { result.now ≡ row_of_component self.now number line }
         ensures small { IsSmallRow (entries_of result.now) }
     {
         let Some(part) = &self.part else {

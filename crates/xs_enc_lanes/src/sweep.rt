@@ -1,7 +1,7 @@
 // What no coder claimed is claimed by the caller.
 ghost use Rattle.std.specs.Prelude.{◌≡◌};
 ghost use Rattle.xs_params.specs.Geometry.{slice_count};
-ghost use Rattle.xs_enc_lanes.specs.Working.{Goes, IsReady, IsWork, SweepsTo};
+ghost use Rattle.xs_enc_lanes.specs.Working.{Goes, IsReadyToCode, IsWork, SweepsTo};
 
 use crate::activity::{Activity, Job, Room};
 use xs_geometry::Geometry;
@@ -10,7 +10,7 @@ impl Activity {
     // Claims each slice that is left, and codes it.
     pub(crate) fn sweep(&mut self, job: &Job<'_>)
         requires work { IsWork job.now }
-        requires ready { IsReady job.now self.old }
+        requires ready { IsReadyToCode job.now self.old }
         ensures goes { Goes job.now self.old self.new }
         ensures all { SweepsTo (slice_count job.now.header.now) self.old self.new }
     {

@@ -4,7 +4,7 @@ ghost use Rattle.xs_layout.specs.Geometry.{components_of};
 ghost use Rattle.xs_lane_core.specs.Machine.{newcomer};
 ghost use Rattle.xs_lanes.specs.Passes.{IsPassOf, view};
 ghost use Rattle.xs_enc_lanes.specs.declared.activity.Role.TheVariants.{Component};
-ghost use Rattle.xs_enc_lanes.specs.Working.{AreForked, HasRole, HasRun, IsFresh, IsIdle, IsRoleOf, IsWork};
+ghost use Rattle.xs_enc_lanes.specs.Working.{AreForked, HasRole, HasRun, IsIdle, IsRoleOf, IsUnusedPass, IsWork};
 
 use crate::activity::{Activity, Job, Role, Team};
 use crate::rows::ComponentRows;

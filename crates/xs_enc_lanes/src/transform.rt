@@ -10,7 +10,7 @@ ghost use Rattle.xs_enc_lanes.specs.Rows.{CarriesRows, component_in, slice_of};
 ghost use Rattle.xs_enc_lanes.specs.Transformed.{AreBandRows, AreFoldedBands, FitLines, HasReached, IsComponentOf, IsUnderWay, KnowsBand, KnowsSlice, rows_for};
 
 use crate::lines::LineRows;
-use crate::rows::{BandRows, CoefRow, ComponentRows};
+use crate::rows::{CoefRow, ComponentRows, SliceBandRows};
 use std::alloc::Global;
 use xs_geometry::Geometry;
 use xs_io::Memory;
@@ -152,7 +152,7 @@ impl<'a> Transform<'a> {
     }
 }
 
-fn add_band(bands: &mut Vec<BandRows>, rows: BandRows) -> Result<(), Memory>
+fn add_band(bands: &mut Vec<SliceBandRows>, rows: SliceBandRows) -> Result<(), Memory>
     ensures { OnOk result (bands.new.items ≡ bands.old.items ++ rows ∷ []) }
 {
     bands.push(rows).map_err(|_| Memory)
@@ -164,7 +164,7 @@ fn folded_bands(
     splitter: &Splitter,
     header: &Header,
     place: (u32, u32),
-) -> Result<Vec<BandRows>, Memory>
+) -> Result<Vec<SliceBandRows>, Memory>
     requires accepted { IsAccepted header.now }
     requires slice { place.0 < slice_count header.now }
     requires component { place.1 < components_of header.now.shape.format }
@@ -188,7 +188,7 @@ fn folded_band(
     splitter: &Splitter,
     header: &Header,
     place: (u32, u32),
-) -> Result<BandRows, Memory>
+) -> Result<SliceBandRows, Memory>
     requires accepted { IsAccepted header.now }
     requires slice { place.0 < slice_count header.now }
     requires band { place.1 < bands_of header.now }
@@ -197,7 +197,7 @@ fn folded_band(
 {
     let kind = Geometry::of(header).kind(place.1);
     let (first, end) = slice_lines(header, place.0, place.1);
-    let mut rows = BandRows::new(alloc);
+    let mut rows = SliceBandRows::new(alloc);
     'lines: for line in first..end {
         let numbers = band_row(splitter, kind, line as usize);
         let row = CoefRow::folded(alloc, numbers, header.fq)?;

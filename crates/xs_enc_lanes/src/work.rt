@@ -4,7 +4,7 @@ ghost use Rattle.xs_layout.specs.Geometry.{components_of};
 ghost use Rattle.xs_params.specs.Geometry.{slice_count};
 ghost use Rattle.xs_slice_write.specs.Coded.{HasSliceRoom};
 ghost use Rattle.xs_enc_lanes.specs.declared.activity.Role.TheVariants.{Component};
-ghost use Rattle.xs_enc_lanes.specs.Working.{Goes, HasRun, IsIdle, IsReady, IsWork};
+ghost use Rattle.xs_enc_lanes.specs.Working.{Goes, HasRun, IsIdle, IsReadyToCode, IsWork};
 
 use crate::activity::{Activity, Job, Role, Room};
 use crate::file::file_component;
@@ -25,7 +25,7 @@ impl Activity {
     fn rest(&mut self, job: &Job<'_>, slice: u32, looks: u32)
         requires work { IsWork job.now }
         requires slice { slice < slice_count job.now.header.now }
-        requires ready { IsReady job.now self.old }
+        requires ready { IsReadyToCode job.now self.old }
         ensures goes { Goes job.now self.old self.new }
     {
         'looking: for _ in 0..looks {
@@ -40,7 +40,7 @@ impl Activity {
     // later. False where the coder ends.
     fn scan<G: Gate>(&mut self, job: &Job<'_>, coder: &mut Coder, gate: &G) -> bool
         requires work { IsWork job.now }
-        requires ready { IsReady job.now self.old }
+        requires ready { IsReadyToCode job.now self.old }
         requires room { HasSliceRoom job.now.header.now coder.old.room.scratch }
         ensures goes { Goes job.now self.old self.new }
         ensures room { HasSliceRoom job.now.header.now coder.new.room.scratch }
@@ -65,7 +65,7 @@ impl Activity {
     // Scans until the gate, or want of memory, ends it.
     fn code<G: Gate>(&mut self, job: &Job<'_>, number: u32, gate: &G)
         requires work { IsWork job.now }
-        requires ready { IsReady job.now self.old }
+        requires ready { IsReadyToCode job.now self.old }
         ensures goes { Goes job.now self.old self.new }
     {
         let Ok(room) = Room::of(self.alloc, job) else {

@@ -1,5 +1,5 @@
 // Any number of workers comes to the same.
-use crate::cases::{BLACK, Case, GREY, Outcome, STRIPES, TIGHT};
+use crate::cases::{BLACK, Case, GREY, PictureOutcome, STRIPES, TIGHT};
 use std::alloc::Global;
 use std::thread::Threads;
 use xs_faults::Budget;
@@ -80,12 +80,12 @@ fn outcome<T: Threads + Sync>(
     alloc: Global,
     case: &Case,
     workers: u8,
-) -> Option<Outcome> {
+) -> Option<PictureOutcome> {
     case.encode(threads, alloc, workers, &OpenGate)
 }
 
 /// Whether a codestream came, and has these bytes.
-pub fn is_stream(outcome: Option<Outcome>, wanted: Result<Octets, Memory>) -> bool {
+pub fn is_stream(outcome: Option<PictureOutcome>, wanted: Result<Octets, Memory>) -> bool {
     match (outcome, wanted) {
         (Some(Ok(bytes)), Ok(wanted)) => bytes.as_slice() == wanted.as_slice(),
         _ => false,
@@ -93,7 +93,7 @@ pub fn is_stream(outcome: Option<Outcome>, wanted: Result<Octets, Memory>) -> bo
 }
 
 // Whether a slice is over its share.
-fn is_over(outcome: Option<Outcome>, budget: Budget) -> bool {
+fn is_over(outcome: Option<PictureOutcome>, budget: Budget) -> bool {
     match outcome {
         Some(Err(found)) => found == budget,
         _ => false,
@@ -139,7 +139,7 @@ fn the_first_slice_over_its_share_is_named(rt: HostRuntime) {
 
 // Whether a codestream of this length came, which its header states, and has the bytes of another one; its first precinct has Q 2,
 // R 0, no modes, and 32256 bytes of data and 8064 of counts in its first packet.
-fn is_long(outcome: Option<Outcome>, other: Option<Outcome>, length: u32) -> bool {
+fn is_long(outcome: Option<PictureOutcome>, other: Option<PictureOutcome>, length: u32) -> bool {
     match (outcome, other) {
         (Some(Ok(bytes)), Some(Ok(others))) => {
             let bytes = bytes.as_slice();

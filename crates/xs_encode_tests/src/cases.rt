@@ -71,7 +71,7 @@ pub const TIGHT: Case = Case {
 };
 
 /// What comes of a picture: its codestream, or the slice that is over its share.
-pub type Outcome = Result<Octets, Budget>;
+pub type PictureOutcome = Result<Octets, Budget>;
 
 impl Case {
     // The settings, with so many workers.
@@ -123,7 +123,7 @@ impl Case {
         alloc: Global,
         workers: u8,
         gate: &G,
-    ) -> Option<Outcome> {
+    ) -> Option<PictureOutcome> {
         let settings = self.settings(alloc, workers)?;
         let shape = &settings.settings().shape;
         let raw = self.raw(alloc, raw_size(shape)).ok()?;

@@ -17,10 +17,10 @@ use Rattle.xs_slice_read.specs.Unit.{IsUnitRead}
 use Rattle.xs_stripe.specs.Edges.{AreSmallRows, EdgeRows, IsDownEdge, IsUpEdge, ShowsDown, ShowsUp}
 use Rattle.xs_handover.specs.declared.piece.Piece.{Piece}
 use Rattle.xs_handover.specs.declared.piece.Piece.TheVariants.{Body, Up, Down}
-use Rattle.xs_handover.specs.declared.piece.Source.{Source}
+use Rattle.xs_handover.specs.declared.piece.SliceSource.{SliceSource}
 use Rattle.xs_handover.specs.Blocks.{Carried, block_of}
 use Rattle.xs_handover.specs.Decoded.{IsDecoded}
-use Rattle.xs_handover.specs.Handing.{IsBlockOf}
+use Rattle.xs_handover.specs.Handing.{IsSourceBlock}
 
 -- the coefficients of a unit are small
 pub unit_small : (h : Header) (slice : ℕ) (rows : List BandLines) (bytes : List ℕ) → IsAccepted h → IsUnitRead h slice rows bytes → AreSmallRows rows
@@ -30,7 +30,7 @@ unit_small h slice rows bytes accepted read = by (nat_eq (slice + 1) (slice_coun
     by true spelled = spelled_small h read.content slice spelled.0 rows accepted spelled.2 read.lines read.shown
     by false spelled = spelled_small h read.content slice bytes rows accepted spelled read.lines read.shown
 
-pub decoded_body : (source : Source) (rows : List BandLines) → IsAccepted source.header → source.slice < slice_count source.header → IsUnitRead source.header source.slice rows source.bytes → IsDecoded (block_of source (Body rows))
+pub decoded_body : (source : SliceSource) (rows : List BandLines) → IsAccepted source.header → source.slice < slice_count source.header → IsUnitRead source.header source.slice rows source.bytes → IsDecoded (block_of source (Body rows))
 decoded_body source rows accepted there read = record {
   accepted = accepted;
   there = there;
@@ -41,7 +41,7 @@ decoded_body source rows accepted there read = record {
   shown = read.shown;
 }
 
-pub decoded_up : (source : Source) (rows : List BandLines) (edge : EdgeRows) → IsAccepted source.header → source.slice < slice_count source.header → IsUnitRead source.header source.slice rows source.bytes
+pub decoded_up : (source : SliceSource) (rows : List BandLines) (edge : EdgeRows) → IsAccepted source.header → source.slice < slice_count source.header → IsUnitRead source.header source.slice rows source.bytes
     → 0 < source.slice → IsUpEdge source.header source.slice edge → ((shown : Rows) → ShowRows source.header shown rows → ShowsUp source.header source.slice edge shown) → IsDecoded (block_of source (Up edge))
 decoded_up source rows edge accepted there read before is shows = record {
   accepted = accepted;
@@ -53,7 +53,7 @@ decoded_up source rows edge accepted there read before is shows = record {
   shown = shows (dequantised_rows source.header read.content) read.shown;
 }
 
-pub decoded_down : (source : Source) (rows : List BandLines) (edge : EdgeRows) → IsAccepted source.header → source.slice < slice_count source.header → IsUnitRead source.header source.slice rows source.bytes
+pub decoded_down : (source : SliceSource) (rows : List BandLines) (edge : EdgeRows) → IsAccepted source.header → source.slice < slice_count source.header → IsUnitRead source.header source.slice rows source.bytes
     → source.slice + 1 < slice_count source.header → IsDownEdge source.header source.slice edge → ((shown : Rows) → ShowRows source.header shown rows → ShowsDown source.header source.slice edge shown) → IsDecoded (block_of source (Down edge))
 decoded_down source rows edge accepted there read after is shows = record {
   accepted = accepted;
@@ -66,7 +66,7 @@ decoded_down source rows edge accepted there read after is shows = record {
 }
 
 -- the block of a slice that is this one
-pub block_is : (source other : Source) (piece : Piece) (v : Carried) → other ≡ source → v ≡ Some (block_of other piece) → IsDecoded (block_of source piece) → IsBlockOf source piece v
+pub block_is : (source other : SliceSource) (piece : Piece) (v : Carried) → other ≡ source → v ≡ Some (block_of other piece) → IsDecoded (block_of source piece) → IsSourceBlock source piece v
 block_is source other piece v same is decoded = (is ∙ ap (λ s. Some (block_of s piece)) same, decoded)
 
 -- Edges by the geometry of a header are those by the header

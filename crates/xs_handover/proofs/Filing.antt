@@ -6,7 +6,7 @@ use Rattle.xs_lane_core.specs.Machine.{Actor}
 use Rattle.xs_lanes.specs.declared.lanes.Put.{Put}
 use Rattle.xs_lanes.specs.declared.lanes.Put.TheVariants.{Stored, Made, Repeat}
 use Rattle.xs_lanes.specs.Answers.{Answers}
-use Rattle.xs_handover.specs.Blocks.{Carried, blocks, stripe_of, place_of}
+use Rattle.xs_handover.specs.Blocks.{Carried, blocks, stripe_of, block_place}
 use Rattle.xs_handover.specs.Decoded.{IsDecodedBlock}
 use Rattle.xs_handover.specs.Handing.{FilesAll, IsFiled}
 
@@ -23,7 +23,7 @@ files_none v = record {
 
 -- the value is stored, or its place is repeated
 record Puts (x : Carried) (v w : Actor Carried) : Type 0 where
-  where_to : ((w.stored ≡ v.stored ++ x ∷ []) × (w.repeated ≡ v.repeated)) ⊎ ((w.stored ≡ v.stored) × (w.repeated ≡ v.repeated ++ (stripe_of x, place_of x) ∷ []))
+  where_to : ((w.stored ≡ v.stored ++ x ∷ []) × (w.repeated ≡ v.repeated)) ⊎ ((w.stored ≡ v.stored) × (w.repeated ≡ v.repeated ++ (stripe_of x, block_place x) ∷ []))
   got : w.got ≡ v.got
   gone : w.gone ≡ v.gone
 
@@ -65,7 +65,7 @@ known v x = All-weaker (Contains v.stored) (λ (y : Carried). Contains v.stored 
 one_put : (v : Actor Carried) (x : Carried) (w : Actor Carried) → Puts x v w → FilesAll (x ∷ []) v w
 one_put v x w p = by p.where_to
   where
-    by : ((w.stored ≡ v.stored ++ x ∷ []) × (w.repeated ≡ v.repeated)) ⊎ ((w.stored ≡ v.stored) × (w.repeated ≡ v.repeated ++ (stripe_of x, place_of x) ∷ [])) → FilesAll (x ∷ []) v w
+    by : ((w.stored ≡ v.stored ++ x ∷ []) × (w.repeated ≡ v.repeated)) ⊎ ((w.stored ≡ v.stored) × (w.repeated ≡ v.repeated ++ (stripe_of x, block_place x) ∷ [])) → FilesAll (x ∷ []) v w
     by (inl here) = record {
       each = All-cons (IsFiled w) x [] (inl (has_last v.stored w.stored x here.0)) (All-nil (IsFiled w));
       only = subst (All (λ (y : Carried). Contains v.stored y ⊎ Contains (x ∷ []) y)) (sym here.0) (All-push (λ (y : Carried). Contains v.stored y ⊎ Contains (x ∷ []) y) v.stored x (known v x) (inr (Contains-push [] x)));
@@ -75,10 +75,10 @@ one_put v x w p = by p.where_to
       gone = p.gone;
     }
     by (inr here) = record {
-      each = All-cons (IsFiled w) x [] (inr (has_last v.repeated w.repeated (stripe_of x, place_of x) here.1)) (All-nil (IsFiled w));
+      each = All-cons (IsFiled w) x [] (inr (has_last v.repeated w.repeated (stripe_of x, block_place x) here.1)) (All-nil (IsFiled w));
       only = subst (All (λ (y : Carried). Contains v.stored y ⊎ Contains (x ∷ []) y)) (sym here.0) (known v x);
       stored = has_same v.stored w.stored here.0;
-      repeated = has_before v.repeated w.repeated (stripe_of x, place_of x) here.1;
+      repeated = has_before v.repeated w.repeated (stripe_of x, block_place x) here.1;
       got = p.got;
       gone = p.gone;
     }
@@ -89,7 +89,7 @@ files_one v x w r answer = one_put v x w (puts_is v x w r answer)
 
 filed_still : (v w : Actor Carried) (xs : List Carried) → FilesAll xs v w → (x : Carried) → IsFiled v x → IsFiled w x
 filed_still v w xs f x (inl c) = inl (All-contains (Contains w.stored) v.stored x f.stored c)
-filed_still v w xs f x (inr c) = inr (All-contains (Contains w.repeated) v.repeated (stripe_of x, place_of x) f.repeated c)
+filed_still v w xs f x (inr c) = inr (All-contains (Contains w.repeated) v.repeated (stripe_of x, block_place x) f.repeated c)
 
 -- two lists of values, one after the other
 pub files_more : (u v w : Actor Carried) (xs ys : List Carried) → FilesAll xs u v → FilesAll ys v w → FilesAll (xs ++ ys) u w

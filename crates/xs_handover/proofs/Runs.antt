@@ -9,7 +9,7 @@ use Rattle.xs_stripe.specs.Edges.{EdgeRows}
 use Rattle.xs_geometry.specs.SliceLines.{BandLines}
 use Rattle.xs_handover.specs.declared.piece.Piece.{Piece}
 use Rattle.xs_handover.specs.declared.piece.Piece.TheVariants.{Body, Up, Down}
-use Rattle.xs_handover.specs.Blocks.{Block, Carried, Carries, HasPiece, blocks, closes_stripe, is_last_for, place_for, place_of, stripe_for, stripe_of}
+use Rattle.xs_handover.specs.Blocks.{Block, Carried, Carries, HasPiece, block_place, blocks, closes_stripe, is_last_for, place_for, stripe_for, stripe_of}
 use Rattle.xs_handover.specs.Decoded.{IsDecoded, IsDecodedIf}
 use Rattle.xs_handover.specs.Sources.{AreOf, place_below, value_at}
 use Rattle.xs_handover.proofs.Layouts.{same_layout}
@@ -22,7 +22,7 @@ IsBy h v = IfSome v (λ (b : Block). b.header ≡ h)
 -- the value is of the stripe and at the place
 record StandsAt (slice place : ℕ) (v : Carried) : Type 0 where
   stripe : stripe_of v ≡ slice
-  place_is : place_of v ≡ place
+  place_is : block_place v ≡ place
 
 has_piece : (h : Header) (slice : ℕ) (piece : Piece) (b : Block) → b.header ≡ h → b.slice ≡ slice → b.piece ≡ piece → HasPiece h slice piece b
 has_piece h slice piece b by s p = record { layout = same_layout b.header h by; slice_is = s; piece_is = p }

@@ -1,4 +1,4 @@
--- Blocks of rows, and where they stand in the lanes: 'Threads'. A lane is a stripe.
+-- Blocks of rows, and where they stand in the lanes. A lane is a stripe, and what stands in it are the rows that the stripe needs.
 use Rattle.std.specs.Prelude.{◌≡◌, ℕ, ◌+◌, ◌-◌, Bool, true, false, nat_eq, nat_lt, if◌then◌else◌, Option, Some, None, MatchOption, List}
 use Rattle.xs_params.specs.declared.header.Header.{Header}
 use Rattle.xs_params.specs.Geometry.{slice_count}
@@ -6,7 +6,7 @@ use Rattle.xs_lane_core.specs.Machine.{Placing}
 use Rattle.xs_lanes.specs.Filing.{placing}
 use Rattle.xs_handover.specs.declared.piece.Piece.{Piece}
 use Rattle.xs_handover.specs.declared.piece.Piece.TheVariants.{Body, Up, Down}
-use Rattle.xs_handover.specs.declared.piece.Source.{Source}
+use Rattle.xs_handover.specs.declared.piece.SliceSource.{SliceSource}
 use Rattle.xs_handover.specs.Headers.{HaveSameLayout}
 
 -- a slice that was read, by its header, its number and its bytes, and those of its rows that one stripe needs
@@ -16,7 +16,7 @@ pub record Block : Type 0 where
   pub bytes : List ℕ
   pub piece : Piece
 
-abbrev pub block_of : Source → Piece → Block
+abbrev pub block_of : SliceSource → Piece → Block
 block_of source piece = record { header = source.header; slice = source.slice; bytes = source.bytes; piece = piece }
 
 -- what contracts see of a value of the lanes; there is one without rows
@@ -49,16 +49,16 @@ abbrev pub stripe_of : Carried → ℕ
 stripe_of None = nowhere
 stripe_of (Some b) = stripe_for b.slice b.piece
 
-abbrev pub place_of : Carried → ℕ
-place_of None = nowhere
-place_of (Some b) = place_for b.slice b.piece
+abbrev pub block_place : Carried → ℕ
+block_place None = nowhere
+block_place (Some b) = place_for b.slice b.piece
 
 abbrev pub closes_stripe : Carried → Bool
 closes_stripe None = false
 closes_stripe (Some b) = is_last_for (slice_count b.header) b.slice b.piece
 
 abbrev pub blocks : Placing Carried
-blocks = placing stripe_of place_of closes_stripe
+blocks = placing stripe_of block_place closes_stripe
 
 -- the block is of this header, this slice and these bytes
 pub record IsFrom (h : Header) (slice : ℕ) (bytes : List ℕ) (b : Block) : Type 0 where

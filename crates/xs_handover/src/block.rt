@@ -1,11 +1,11 @@
 // Blocks of rows, and where they stand in the lanes.
 ghost use Rattle.std.specs.Prelude.{◌≡◌, Some, IfOk, MatchOption};
 ghost use Rattle.xs_handover.specs.declared.piece.Piece.TheVariants.{Body, Up, Down};
-ghost use Rattle.xs_handover.specs.Blocks.{Carries, HasPiece, block_of, stripe_of, place_of, closes_stripe};
+ghost use Rattle.xs_handover.specs.Blocks.{Carries, HasPiece, block_of, stripe_of, block_place, closes_stripe};
 ghost use Rattle.xs_handover.specs.Decoded.{IsDecoded, IsDecodedIf};
 
 use crate::header::have_same_layout;
-use crate::piece::{Piece, Source};
+use crate::piece::{Piece, SliceSource};
 use std::alloc::Global;
 use std::default::MadeWith;
 use std::marker::Model;
@@ -18,7 +18,7 @@ use xs_stripe::Edge;
 // The rows, and the slice of whose bytes they were read.
 #[derive(Drop)]
 struct Part {
-    source: Arc<Source>,
+    source: Arc<SliceSource>,
     piece: Piece,
 }
 
@@ -45,7 +45,7 @@ impl Part {
     }
 
     fn slot(&self) -> u32
-        ensures { result ≡ place_of (Some self.now) }
+        ensures { result ≡ block_place (Some self.now) }
     {
         match &self.piece {
             Piece::Body(_) => 0,
@@ -96,11 +96,11 @@ impl Model for RowBlock {
 }
 
 impl Placed for RowBlock {
-    ghost use Rattle.xs_handover.specs.Blocks.{stripe_of, place_of, closes_stripe};
+    ghost use Rattle.xs_handover.specs.Blocks.{stripe_of, block_place, closes_stripe};
 
     ghost lane_of = { stripe_of };
 
-    ghost slot_of = { place_of };
+    ghost slot_of = { block_place };
 
     ghost closes_of = { closes_stripe };
 
@@ -138,7 +138,11 @@ impl MadeWith<Blank> for RowBlock {
 
 impl RowBlock {
     // The rows that were read of a slice.
-    pub(crate) fn new(alloc: Global, source: Arc<Source>, piece: Piece) -> Result<RowBlock, Memory>
+    pub(crate) fn new(
+        alloc: Global,
+        source: Arc<SliceSource>,
+        piece: Piece,
+    ) -> Result<RowBlock, Memory>
         requires { IsDecoded (block_of source.value piece) }
         ensures { IfOk result (λ b. b ≡ Some (block_of source.value piece)) }
     {

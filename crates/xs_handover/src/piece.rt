@@ -17,7 +17,7 @@ pub enum Piece {
 
 // A slice as it was sent: its header, its number, and the bytes of its unit.
 #[derive(Drop)]
-pub struct Source {
+pub struct SliceSource {
     pub header: Header,
     pub slice: u32,
     pub bytes: Octets,

@@ -12,7 +12,7 @@ use crate::block::RowBlock;
 use crate::blocks::Handed;
 use crate::fault::HandFault;
 use crate::header::copy_of;
-use crate::piece::{Piece, Source};
+use crate::piece::{Piece, SliceSource};
 use std::alloc::Global;
 use std::sync::Arc;
 use xs_faults::SliceFault;
@@ -62,21 +62,21 @@ fn edges(
 }
 
 // The slice, with an owner.
-fn shared(alloc: Global, source: Source) -> Result<Arc<Source>, Memory>
+fn shared(alloc: Global, source: SliceSource) -> Result<Arc<SliceSource>, Memory>
     ensures { IfOk result (λ owner. owner.value ≡ source) }
 {
     Arc::new(alloc, source).map_err(|_| Memory)
 }
 
 // One more owner of a slice.
-fn again(source: &Arc<Source>) -> Result<Arc<Source>, Memory>
+fn again(source: &Arc<SliceSource>) -> Result<Arc<SliceSource>, Memory>
     ensures { IfOk result (λ other. other.value ≡ source.now.value) }
 {
     Arc::try_clone(source).map_err(|_| Memory)
 }
 
 // The blocks of a slice whose rows were read.
-fn blocks_of(alloc: Global, source: Source, rows: SliceRows) -> Result<Handed, Memory>
+fn blocks_of(alloc: Global, source: SliceSource, rows: SliceRows) -> Result<Handed, Memory>
     requires accepted { IsAccepted source.header }
     requires there { source.slice < slice_count source.header }
     requires read { IsUnitRead source.header source.slice rows source.bytes }
@@ -114,7 +114,7 @@ pub(crate) fn read_blocks(
     ensures refused { IfErr result (IsRefusal (source_of header.now slice bytes)) }
 {
     let rows = read_rows(alloc, header, slice, bytes.as_slice())?;
-    let source = Source {
+    let source = SliceSource {
         header: copy_of(alloc, header)?,
         slice,
         bytes,

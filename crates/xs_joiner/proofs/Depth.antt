@@ -6,7 +6,7 @@ use Rattle.xs_signal.specs.Stripe.{rows_at, rows_each}
 use Rattle.xs_joiner.specs.Level.{NeedsRow}
 use Rattle.xs_joiner.specs.Counts.{taken_by, given_at}
 use Rattle.xs_joiner.specs.Chain.{split_of, IsLevelAt, IsChain}
-use Rattle.xs_joiner.specs.Midway.{IsDepth}
+use Rattle.xs_joiner.specs.Midway.{IsMovingDepth}
 use Rattle.xs_joiner.specs.declared.level.Level.{Level}
 use Rattle.xs_joiner.specs.declared.joiner.Joiner.{Joiner}
 use Rattle.xs_joiner.proofs.Counts.{each_halved, given_deep, given_flat, needed_more, needed_none, given_most, given_from, rests_past}
@@ -66,7 +66,7 @@ moving_next c depth l chain room m less value needs = record {
 }
 
 -- the first level that needs none
-pub depth_found : (c : Joiner) (depth : ℕ) (l : Level) → IsChain c → c.given < c.height → AreMoving c depth → depth < c.across → l ≡ get_or c.levels.items depth l → l.deep ≡ true → (low_count l.columns.height ≤ l.columns.taken ⊎ l.given + 2 ≤ 2 * l.columns.taken) → IsDepth c depth
+pub depth_found : (c : Joiner) (depth : ℕ) (l : Level) → IsChain c → c.given < c.height → AreMoving c depth → depth < c.across → l ≡ get_or c.levels.items depth l → l.deep ≡ true → (low_count l.columns.height ≤ l.columns.taken ⊎ l.given + 2 ≤ 2 * l.columns.taken) → IsMovingDepth c depth
 depth_found c depth l chain room m less value deep known =
     let s = split_of c in
     let at = level_of c depth l chain less value in
@@ -84,5 +84,5 @@ depth_found c depth l chain room m less value deep known =
     record { far = m.far; moves = m.moves; rests = λ level past to. rests_past s c.first (c.given + 1) c.given (suc depth) level (omega (arith, past)) next }
 
 -- all levels do
-pub depth_all : (c : Joiner) (depth : ℕ) → AreMoving c depth → c.across ≤ depth → IsDepth c depth
+pub depth_all : (c : Joiner) (depth : ℕ) → AreMoving c depth → c.across ≤ depth → IsMovingDepth c depth
 depth_all c depth m all = record { far = m.far; moves = m.moves; rests = λ level past to. absurd (omega (arith, past, to, all)) }

@@ -11,7 +11,7 @@ use Rattle.xs_joiner.specs.Columns.{SameLine}
 use Rattle.xs_joiner.specs.Level.{IsLevel, IsSameLevel, IsKnownLine, HoldsRows, AreNext, given_rows, lows}
 use Rattle.xs_joiner.specs.Counts.{taken_by, given_at}
 use Rattle.xs_joiner.specs.Chain.{split_of, reach_at, part_of, low_rows, high_rows, IsLevelAt, EachLevel, HaveWidths, AreChained, IsChain, HoldPlane, HoldsBands, HoldsLevel, IsTaken, HaveNext}
-use Rattle.xs_joiner.specs.Midway.{IsMidway, IsDepth}
+use Rattle.xs_joiner.specs.Midway.{IsMidway, IsMovingDepth}
 use Rattle.xs_joiner.specs.declared.level.Level.{Level}
 use Rattle.xs_joiner.specs.declared.source.Band.{Band}
 use Rattle.xs_joiner.specs.declared.source.Band.TheVariants.{Lowest, Hl, Lh, Hh}
@@ -95,7 +95,7 @@ known_line s level given taken l at room deep flat =
 
 -- ---- the level where the line begins
 
-pub begin_known : (c : Joiner) (depth : ℕ) (l : Level) → IsChain c → c.given < c.height → IsDepth c depth → depth < c.across → l ≡ get_or c.levels.items depth l → IsKnownLine l
+pub begin_known : (c : Joiner) (depth : ℕ) (l : Level) → IsChain c → c.given < c.height → IsMovingDepth c depth → depth < c.across → l ≡ get_or c.levels.items depth l → IsKnownLine l
 begin_known c depth l chain room d less value =
     let s = split_of c in
     let g = given_at s c.first c.given depth in
@@ -110,7 +110,7 @@ begin_known c depth l chain room d less value =
     known_still start (rows_at s depth) g t (given_deep s c.first c.given depth down) next (start_at c depth chain down) inside)
     (λ flat. absurd (omega (arith, given_flat s c.first (c.given + 1) depth flat, given_flat s c.first c.given depth flat, moves, rests)))
 
-pub begin_midway : (rows : Band → ℕ → List ℤ) (depth : ℕ) (c new : Joiner) (l n : Level) (line : List ℤ) → IsChain c → c.given < c.height → IsDepth c depth → depth < c.across → l ≡ get_or c.levels.items depth l → IsGiven l n line
+pub begin_midway : (rows : Band → ℕ → List ℤ) (depth : ℕ) (c new : Joiner) (l n : Level) (line : List ℤ) → IsChain c → c.given < c.height → IsMovingDepth c depth → depth < c.across → l ≡ get_or c.levels.items depth l → IsGiven l n line
     → split_of new ≡ split_of c → new.first ≡ c.first → new.given ≡ c.given → new.lowest ≡ c.lowest → new.levels.items ≡ set c.levels.items depth n → new.lines.items ≡ set c.lines.items depth line → IsMidway rows depth c new
 begin_midway rows depth c new l n line chain room d less value given split first same lowest levels lines =
     let s = split_of c in
@@ -152,7 +152,7 @@ begin_midway rows depth c new l n line chain room d less value given split first
     }
 
 -- the line begins with a row of the lowest band
-pub lowest_taken : (rows : Band → ℕ → List ℤ) (depth : ℕ) (c : Joiner) → IsChain c → IsDepth c depth → depth ≡ c.across → HaveNext c rows → IsFresh (low_count_at c.width c.across) (rows Lowest c.lowest)
+pub lowest_taken : (rows : Band → ℕ → List ℤ) (depth : ℕ) (c : Joiner) → IsChain c → IsMovingDepth c depth → depth ≡ c.across → HaveNext c rows → IsFresh (low_count_at c.width c.across) (rows Lowest c.lowest)
 lowest_taken rows depth c chain d all there =
     let moves = d.moves c.across (omega (arith, all)) in
     there.lowest c.lowest (chain.lowest_is, omega (arith, moves, chain.lowest_is))
@@ -161,7 +161,7 @@ columns_left : (n level : ℕ) → 0 < n → 0 < low_count_at n level
 columns_left n zero some = some
 columns_left n (suc level) some = let before = columns_left n level some in omega (arith, before)
 
-pub lowest_known : (rows : Band → ℕ → List ℤ) (depth : ℕ) (c : Joiner) → IsChain c → IsDepth c depth → depth ≡ c.across → HaveNext c rows → 0 < length (rows Lowest c.lowest)
+pub lowest_known : (rows : Band → ℕ → List ℤ) (depth : ℕ) (c : Joiner) → IsChain c → IsMovingDepth c depth → depth ≡ c.across → HaveNext c rows → 0 < length (rows Lowest c.lowest)
 lowest_known rows depth c chain d all there =
     let fresh = lowest_taken rows depth c chain d all there in
     let wide = fresh.wide in
@@ -172,7 +172,7 @@ rows_left : (n level : ℕ) → low_count_at n level ≤ n
 rows_left n zero = omega arith
 rows_left n (suc level) = let before = rows_left n level in omega (arith, before)
 
-pub lowest_room : (depth : ℕ) (c : Joiner) → IsChain c → c.given < c.height → IsDepth c depth → depth ≡ c.across → c.lowest < c.height
+pub lowest_room : (depth : ℕ) (c : Joiner) → IsChain c → c.given < c.height → IsMovingDepth c depth → depth ≡ c.across → c.lowest < c.height
 lowest_room depth c chain room d all =
     let moves = d.moves c.across (omega (arith, all)) in
     let inside = room_at c c.across chain room moves in
@@ -180,7 +180,7 @@ lowest_room depth c chain room d all =
     let is = chain.lowest_is in
     omega (arith, inside, most, is)
 
-pub begin_lowest : (rows : Band → ℕ → List ℤ) (depth : ℕ) (c new : Joiner) (line : List ℤ) → IsChain c → IsDepth c depth → depth ≡ c.across → HaveNext c rows → line ≡ rows Lowest c.lowest
+pub begin_lowest : (rows : Band → ℕ → List ℤ) (depth : ℕ) (c new : Joiner) (line : List ℤ) → IsChain c → IsMovingDepth c depth → depth ≡ c.across → HaveNext c rows → line ≡ rows Lowest c.lowest
     → split_of new ≡ split_of c → new.first ≡ c.first → new.given ≡ c.given → new.lowest ≡ c.lowest + 1 → new.levels.items ≡ c.levels.items → new.lines.items ≡ set c.lines.items depth line → IsMidway rows depth c new
 begin_lowest rows depth c new line chain d all there is split first same lowest levels lines =
     let s = split_of c in

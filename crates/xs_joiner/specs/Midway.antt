@@ -10,7 +10,7 @@ use Rattle.xs_joiner.specs.declared.source.Band.{Band}
 use Rattle.xs_joiner.specs.declared.joiner.Joiner.{Joiner}
 
 -- so many levels take a row when the next line is made: those before this one, and the row is one that this level gives
-pub record IsDepth (c : Joiner) (depth : ℕ) : Type 0 where
+pub record IsMovingDepth (c : Joiner) (depth : ℕ) : Type 0 where
   pub far : depth ≤ c.across
   pub moves : (level : ℕ) → level ≤ depth → given_at (split_of c) c.first (c.given + 1) level ≡ given_at (split_of c) c.first c.given level + 1
   pub rests : (level : ℕ) → depth < level → level ≤ c.across → given_at (split_of c) c.first (c.given + 1) level ≡ given_at (split_of c) c.first c.given level

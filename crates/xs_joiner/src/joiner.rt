@@ -35,7 +35,7 @@ pub struct Joiner {
 }
 
 impl Joiner {
-    ghost use Rattle.xs_joiner.specs.Midway.{IsDepth, IsMidway};
+    ghost use Rattle.xs_joiner.specs.Midway.{IsMidway, IsMovingDepth};
     ghost use Rattle.xs_joiner.specs.Chain.{IsChain, IsSameJoiner, HaveAbove, HaveNext, HoldsBands, split_by, split_of};
 
     /// Before the first line.
@@ -126,7 +126,7 @@ impl Joiner {
     fn depth(&self) -> u32
         requires chain { IsChain self.now }
         requires room { self.now.given < self.now.height }
-        ensures { IsDepth self.now result }
+        ensures { IsMovingDepth self.now result }
     {
         let mut depth = 0;
         'levels: while depth < self.across {
@@ -143,7 +143,7 @@ impl Joiner {
         requires chain { IsChain self.old }
         requires room { self.old.given < self.old.height }
         requires rows { HaveNext self.old (S.rows rows.now) }
-        requires depth { IsDepth self.old depth }
+        requires depth { IsMovingDepth self.old depth }
         ensures { IsMidway (S.rows rows.now) depth self.old self.new }
     {
         let place = depth as usize;

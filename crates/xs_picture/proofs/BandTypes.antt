@@ -23,7 +23,8 @@ use Rattle.xs_wave.proofs.Splits.{high_columns, low_columns, rows_wide}
 use Rattle.xs_wave.proofs.Types.{deep_side, all_counted, first_type, first_wide, first_deep, wide_type, deep_type}
 use Rattle.xs_wave.proofs.WithinLaws.{rows_deep}
 use Rattle.xs_decoding.proofs.Within.{accepted_component}
-use Rattle.xs_picture.specs.Analysed.{AreComponentBandsOf, IsSplitUp, component_split, numbers_of, rows_by_type, rows_of_level}
+use Rattle.xs_stripe.specs.Joined.{component_split}
+use Rattle.xs_picture.specs.Analysed.{AreComponentBandsOf, IsSplitUp, numbers_of, rows_by_type, rows_of_level}
 
 -- a type is the lowest, or of a level that is split across only, or one of three of a level that is split both ways
 pub each_type : (s : Split) (P : BandType → Type 0) → s.down ≤ s.across → P (ll s.across s.down) → ((level : ℕ) → s.down ≤ level → level < s.across → P (hl (suc level) s.down))

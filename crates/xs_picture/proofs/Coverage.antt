@@ -15,7 +15,7 @@ use Rattle.xs_geometry.specs.SliceLines.{AreLinesOf, BandLines, HasLine, lines_a
 use Rattle.xs_geometry.specs.Sides.{deep_side}
 use Rattle.xs_geometry.proofs.Types.{wide_type, deep_type}
 use Rattle.xs_stripe.specs.Source.{IsBandRow}
-use Rattle.xs_picture.specs.Coefs.{Coefs, AreCoefs, row_in}
+use Rattle.xs_picture.specs.Coefs.{Coefs, AreCoefs, row_of_slices}
 
 -- ---- heights
 
@@ -123,7 +123,7 @@ row_width c band line are inside less =
     (are.lines (line / slice_height c.header band) (slice_there c.header band line are.accepted inside less)).width band line (line_there c band line are inside less)
 
 -- a row that has numbers stands in its slice
-pub known_there : (c : Coefs) (band line : ℕ) → AreCoefs c → 0 < length (row_in c.header c.slices band line)
+pub known_there : (c : Coefs) (band line : ℕ) → AreCoefs c → 0 < length (row_of_slices c.header c.slices band line)
     → (band < bands_of c.header) × HasLine (get_or c.slices (line / slice_height c.header band) []) band line
 known_there c band line are some = elim (cases_lt slice (length c.slices)) [
   | inl less ↦ elim (cases_lt band (bands_of c.header)) [
@@ -156,7 +156,7 @@ known_there c band line are some = elim (cases_lt slice (length c.slices)) [
         record { band_there = omega (arith, inside, lines.count); from = first; line_there = omega (arith, there, first) }
 
 -- the rows that are there are those of the bands
-pub row_of_band : (c : Coefs) (band line : ℕ) → AreCoefs c → band < bands_of c.header → line < band_height_of c.header band → IsBandRow (band_width_of c.header band) (row_in c.header c.slices band line)
+pub row_of_band : (c : Coefs) (band line : ℕ) → AreCoefs c → band < bands_of c.header → line < band_height_of c.header band → IsBandRow (band_width_of c.header band) (row_of_slices c.header c.slices band line)
 row_of_band c band line are inside less = record {
   wide = row_width c band line are inside less;
   small = are.small (line / slice_height c.header band) (slice_there c.header band line are.accepted inside less) band line (line_there c band line are inside less);

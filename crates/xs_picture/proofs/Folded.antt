@@ -28,7 +28,8 @@ use Rattle.xs_wave.specs.Planes.{plane_of, HasSize}
 use Rattle.xs_wave.specs.Bands.{band_count}
 use Rattle.xs_wave.proofs.Types.{all_counted}
 use Rattle.xs_splitter.specs.declared.splitter.Splitter.{Splitter}
-use Rattle.xs_picture.specs.Analysed.{AreBandsOf, ArePictureRows, IsBandFolded, component_split, folded_row, folded_rows, plane_of_band}
+use Rattle.xs_stripe.specs.Joined.{component_split}
+use Rattle.xs_picture.specs.Analysed.{AreBandsOf, ArePictureRows, IsBandFolded, folded_row, folded_rows, plane_of_band}
 use Rattle.xs_picture.specs.Local.{SameInSlice}
 
 -- ---- bands

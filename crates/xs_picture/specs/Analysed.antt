@@ -10,7 +10,7 @@ use Rattle.xs_signal.specs.Colour.{rct}
 use Rattle.xs_signal.specs.Fold.{fold}
 use Rattle.xs_signal.specs.Lines.{AllBelow, Shows, entries_of}
 use Rattle.xs_signal.specs.Picture.{analysed, coloured, one_of, scaled}
-use Rattle.xs_signal.specs.Wavelet.{Split, band_plane}
+use Rattle.xs_signal.specs.Wavelet.{band_plane}
 use Rattle.xs_signal.specs.Samples.{scale_in}
 use Rattle.xs_rate.specs.Coefficients.{signal_of}
 use Rattle.xs_geometry.specs.SliceLines.{BandLines, AreLinesOf, HasLine, row_at}
@@ -23,12 +23,9 @@ use Rattle.xs_splitter.specs.declared.splitter.Splitter.{Splitter}
 use Rattle.xs_wave.specs.Within.{SameWithin}
 use Rattle.xs_wave.specs.Planes.{plane_of, HasSize}
 use Rattle.xs_wave.specs.Bands.{band_count, columns_in, rows_in, type_at}
+use Rattle.xs_stripe.specs.Joined.{component_split}
 
 -- Components
-
--- how a component is split
-abbrev pub component_split : Header → ℕ → Split
-component_split h component = (signal_of h).split component
 
 -- luma, the first or the second difference of three samples
 abbrev pub rct_entry : ℕ → ℕ → ℕ → ℕ → ℕ → ℕ → ℤ

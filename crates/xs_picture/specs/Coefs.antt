@@ -13,12 +13,12 @@ pub record Coefs : Type 0 where
   pub slices : List (List BandLines)
 
 -- the row of a band's line stands in the slice that has the line
-abbrev pub row_in : Header → List (List BandLines) → ℕ → ℕ → List ℤ
-row_in h slices band line = row_at (slice_index_or slices (line / slice_height h band) []) band line
+abbrev pub row_of_slices : Header → List (List BandLines) → ℕ → ℕ → List ℤ
+row_of_slices h slices band line = row_at (slice_index_or slices (line / slice_height h band) []) band line
 
 -- the coefficient of a band, line and column
 abbrev pub rows_of_slices : Header → List (List BandLines) → Rows
-rows_of_slices h slices band line column = entries_of (row_in h slices band line) column
+rows_of_slices h slices band line column = entries_of (row_of_slices h slices band line) column
 
 -- the slices are those of the header, and their coefficients are as small as those of a codestream
 pub record AreCoefs (coefs : Coefs) : Type 0 where

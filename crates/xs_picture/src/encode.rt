@@ -8,5 +8,5 @@ mod folding;
 
 pub use analysis::{Component, component_splitter, scale_line};
 pub use bands::band_row;
-pub use colours::ColourRows;
+pub use colours::DifferenceRows;
 pub use encoder::{assemble_stream, encode_picture};

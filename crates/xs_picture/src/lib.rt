@@ -10,7 +10,7 @@ mod encode;
 
 pub use decode::{StreamCoefs, decode_coefs, decode_picture, last_slice, read_stream};
 pub use encode::{
-    ColourRows, Component, assemble_stream, band_row, component_splitter, encode_picture,
+    Component, DifferenceRows, assemble_stream, band_row, component_splitter, encode_picture,
     scale_line,
 };
 pub use xs_faults::{Budget, SliceRefusal, StreamFault};

@@ -7,7 +7,7 @@ use Rattle.std.proofs.lemmas.Bool.{ltb-false}
 use Rattle.std.proofs.lemmas.List.{set_at, get_or_at, drop_more, drop_all, drop-drop, get_or-drop, length-drop, length-map}
 use Rattle.std.proofs.lemmas.List.Elements.{filter-append}
 use Rattle.std.proofs.lemmas.List.FromFn.{length-map-range_with_len, get_or-map-range_with_len, map-range_with_len_more}
-use Rattle.xs_bits.specs.Reading.{Reading, left}
+use Rattle.xs_bits.specs.Reading.{BitReading, left}
 use Rattle.xs_lists.specs.Bits.{bits_of, bit_of}
 use Rattle.xs_lists.specs.Spelling.{upto}
 use Rattle.xs_spelling.specs.Counts.{Line}
@@ -102,7 +102,7 @@ still_numbers t counts old into bits are e = record {
     size = ap length e ∙ length-map-range_with_len (with_signs (numbered t counts old) bits).value 0 (4 * length counts)
 
 -- what is left after so many more bits
-pub left_at : (now old : Reading) (n : ℕ) → now.place ≡ old.place + n → now.bits ≡ old.bits → left now ≡ drop n (left old)
+pub left_at : (now old : BitReading) (n : ℕ) → now.place ≡ old.place + n → now.bits ≡ old.bits → left now ≡ drop n (left old)
 left_at now old n place same = ap (λ bits. drop now.place bits) same ∙ ap (λ p. drop p old.bits) place ∙ sym (drop-drop n old.place old.bits)
 
 pub signs_short : (line : Line) (all now : List ℕ) (k : ℕ) → k < 4 * line.groups → nat_lt 0 (unsigned_abs (line.value k)) ≡ true → now ≡ drop (sign_place line k) all → length now < 1

@@ -1,7 +1,7 @@
 -- Fields of bits that a reader takes one after the other.
 use Rattle.std.proofs.Common.{◌≡◌, ℕ, zero, suc, ◌+◌, ◌-◌, ◌*◌, ◌^◌, ◌<◌, ◌≤◌, List, [], ◌∷◌, ◌++◌, length, take, drop, refl, sym, ap, subst, ◌∙◌, arith}
 use Rattle.std.proofs.lemmas.List.{drop-take, take_all, take-append-le}
-use Rattle.xs_bits.specs.Reading.{Reading, left}
+use Rattle.xs_bits.specs.Reading.{BitReading, left}
 use Rattle.xs_lists.specs.Bits.{bits_of, bits_of_bytes}
 use Rattle.xs_lists.specs.Packing.{number_of}
 use Rattle.xs_lists.proofs.Bits.{length-bits_of}
@@ -28,7 +28,7 @@ field_got place width value bits rest small e =
     sym (ap number_of front ∙ number_back width value small)
 
 -- a reader at its start has all bits left
-pub left_all : (r : Reading) (bytes : List ℕ) → r.bits ≡ bits_of_bytes bytes → r.place ≡ 0 → left r ≡ bits_of_bytes bytes
+pub left_all : (r : BitReading) (bytes : List ℕ) → r.bits ≡ bits_of_bytes bytes → r.place ≡ 0 → left r ≡ bits_of_bytes bytes
 left_all r bytes e f = ap (λ p. drop p r.bits) f ∙ e
 
 short : (m k : ℕ) (xs : List ℕ) → m ≤ k → take m (take k xs) ≡ take m xs

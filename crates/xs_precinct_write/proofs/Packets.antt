@@ -18,7 +18,7 @@ use Rattle.xs_grammar.specs.Packet.{packet_fields}
 use Rattle.xs_grammar.specs.Precinct.{Content, coded_line}
 use Rattle.xs_grammar.specs.Sizes.{head_size, packet_size}
 use Rattle.xs_rate.proofs.Packets.{part-size}
-use Rattle.xs_precinct_write.specs.Outgoing.{Outgoing, HaveModes, IsSentAs, no_line, own_signs}
+use Rattle.xs_precinct_write.specs.Outgoing.{Outgoing, HaveModes, IsSentAs, no_outgoing, own_signs}
 use Rattle.xs_precinct_write.specs.Parts.{ArePacketLines, band_part, head_fields, packet_out, part_bytes}
 use Rattle.xs_precinct_write.specs.declared.write.line.LinePart.{LinePart}
 use Rattle.xs_precinct_write.specs.declared.write.line.LinePart.TheVariants.{Flags, Counts, Data, Signs}
@@ -29,7 +29,7 @@ pub record AreSent (h : Header) (content : Content) (mode : ℕ → ℕ) (place 
   pub heads : h.long_heads ≡ false
   pub apart : p.apart ≡ h.signs_apart
   pub bands : packet_bands h place ≡ range_with_len p.first (p.end - p.first)
-  pub lines : (band : ℕ) → p.first ≤ band → band < p.end → IsSentAs (coded_line h content (mode band) band place.line) (get_or p.lines.now band no_line)
+  pub lines : (band : ℕ) → p.first ≤ band → band < p.end → IsSentAs (coded_line h content (mode band) band place.line) (get_or p.lines.now band no_outgoing)
 
 -- Parts
 
@@ -59,8 +59,8 @@ nothing (x ∷ xs) = nothing xs
 signs_same : (h : Header) (content : Content) (mode : ℕ → ℕ) (place : PacketPlace) (p : PacketLines) → AreSent h content mode place p → part_bytes p Signs ≡ signs_part h.signs_apart (packet_bands h place) (packet_line h content mode place)
 signs_same h content mode place p sent = cases p.apart ∙ ap (λ apart. signs_part apart (packet_bands h place) (packet_line h content mode place)) sent.apart
   where
-    cases : (apart : Bool) → packed (flat_map (λ band. own_signs apart (get_or p.lines.now band no_line)) (range_with_len p.first (p.end - p.first))) ≡ signs_part apart (packet_bands h place) (packet_line h content mode place)
-    cases true = ap packed (part_same (λ band. own_signs true (get_or p.lines.now band no_line)) (λ band. sign_bits (packet_line h content mode place band)) p.first p.end (packet_bands h place) sent.bands
+    cases : (apart : Bool) → packed (flat_map (λ band. own_signs apart (get_or p.lines.now band no_outgoing)) (range_with_len p.first (p.end - p.first))) ≡ signs_part apart (packet_bands h place) (packet_line h content mode place)
+    cases true = ap packed (part_same (λ band. own_signs true (get_or p.lines.now band no_outgoing)) (λ band. sign_bits (packet_line h content mode place band)) p.first p.end (packet_bands h place) sent.bands
         (λ band low high. (sent.lines band low high).signs))
     cases false = ap packed (nothing (range_with_len p.first (p.end - p.first)))
 
@@ -117,15 +117,15 @@ short_parts h content mode place p sent size = parts
 -- the lines of a packet that were counted and quantised
 pub packet_known : (h : Header) (content : Content) (mode : ℕ → ℕ) (place : PacketPlace) (packet : Place) (old : List Outgoing) (p : PacketLines) → h.long_heads ≡ false → p.apart ≡ h.signs_apart
     → packet_bands h place ≡ range_with_len p.first (p.end - p.first) → place_of packet ≡ place → HaveModes h mode old → p.end ≤ bands_of h
-    → ((band : ℕ) → p.first ≤ band → band < p.end → IsSentAs (coded_line h content (get_or old band no_line).mode band packet.line) (get_or p.lines.now band no_line))
+    → ((band : ℕ) → p.first ≤ band → band < p.end → IsSentAs (coded_line h content (get_or old band no_outgoing).mode band packet.line) (get_or p.lines.now band no_outgoing))
     → AreSent h content mode place p
 packet_known h content mode place packet old p heads apart listed here modes end sent = record {
   heads = heads;
   apart = apart;
   bands = listed;
   lines = λ band low high.
-      subst (λ line. IsSentAs (coded_line h content (mode band) band line) (get_or p.lines.now band no_line)) (ap (λ (x : PacketPlace). x.line) here)
-      (subst (λ m. IsSentAs (coded_line h content m band packet.line) (get_or p.lines.now band no_line)) (modes band (omega (arith, high, end))) (sent band low high));
+      subst (λ line. IsSentAs (coded_line h content (mode band) band line) (get_or p.lines.now band no_outgoing)) (ap (λ (x : PacketPlace). x.line) here)
+      (subst (λ m. IsSentAs (coded_line h content m band packet.line) (get_or p.lines.now band no_outgoing)) (modes band (omega (arith, high, end))) (sent band low high));
 }
 
 pub packet_lines : (h : Header) (content : Content) (mode : ℕ → ℕ) (place : PacketPlace) (p : PacketLines) → AreSent h content mode place p → p.end ≤ length p.lines.now → packet_size h content mode place ≤ 2 ^ 20 → ArePacketLines p

@@ -21,7 +21,7 @@ use Rattle.xs_grammar.specs.Coded.{field_bytes, packet_bytes, packet_fits, packe
 use Rattle.xs_grammar.specs.Precinct.{Content}
 use Rattle.xs_grammar.proofs.Coded.{list_all-all}
 use Rattle.xs_grammar.proofs.Sizes.{lines_are}
-use Rattle.xs_precinct_write.specs.Outgoing.{Outgoing, HaveModes, no_line}
+use Rattle.xs_precinct_write.specs.Outgoing.{Outgoing, HaveModes, no_outgoing}
 use Rattle.xs_precinct_write.proofs.Joined.{part_bits}
 
 -- Where
@@ -93,9 +93,9 @@ pairs_range f g first (suc n) same =
 -- the header and the body are the precinct
 pub precinct_same : (h : Header) (content : Content) (mode : ℕ → ℕ → ℕ) (filler : ℕ → ℕ) (precinct : ℕ) (lines : List Outgoing) (body : List ℕ) → body ≡ precinct_body h content mode filler precinct
     → length lines ≡ bands_of h → HaveModes h (mode precinct) lines
-    → field_bytes ((24, length body) ∷ (8, content.q precinct) ∷ (8, content.r precinct) ∷ map {B = ℕ × ℕ} (λ band. (2, (get_or lines band no_line).mode)) (upto (length lines))) ++ body ≡ precinct_bytes h content mode filler precinct
+    → field_bytes ((24, length body) ∷ (8, content.q precinct) ∷ (8, content.r precinct) ∷ map {B = ℕ × ℕ} (λ band. (2, (get_or lines band no_outgoing).mode)) (upto (length lines))) ++ body ≡ precinct_bytes h content mode filler precinct
 precinct_same h content mode filler precinct lines body same count modes =
     let whole = precinct_body h content mode filler precinct in
-    ap (λ b. field_bytes ((24, length b) ∷ (8, content.q precinct) ∷ (8, content.r precinct) ∷ map {B = ℕ × ℕ} (λ band. (2, (get_or lines band no_line).mode)) (upto (length lines))) ++ b) same
+    ap (λ b. field_bytes ((24, length b) ∷ (8, content.q precinct) ∷ (8, content.r precinct) ∷ map {B = ℕ × ℕ} (λ band. (2, (get_or lines band no_outgoing).mode)) (upto (length lines))) ++ b) same
     ∙ ap (λ (l : List (ℕ × ℕ)). field_bytes ((24, length whole) ∷ (8, content.q precinct) ∷ (8, content.r precinct) ∷ l) ++ whole)
-    (ap (λ n. map {B = ℕ × ℕ} (λ band. (2, (get_or lines band no_line).mode)) (upto n)) count ∙ pairs_range (λ band. (get_or lines band no_line).mode) (mode precinct) 0 (bands_of h) (λ i low high. modes i (omega (arith, high))))
+    (ap (λ n. map {B = ℕ × ℕ} (λ band. (2, (get_or lines band no_outgoing).mode)) (upto n)) count ∙ pairs_range (λ band. (get_or lines band no_outgoing).mode) (mode precinct) 0 (bands_of h) (λ i low high. modes i (omega (arith, high))))

@@ -27,8 +27,8 @@ pub record Outgoing : Type 0 where
   pub counts : List ℕ
   pub values : List ℤ
 
-abbrev pub no_line : Outgoing
-no_line = record { mode = 0; cut = 0; there = false; above = []; counts = []; values = [] }
+abbrev pub no_outgoing : Outgoing
+no_outgoing = record { mode = 0; cut = 0; there = false; above = []; counts = []; values = [] }
 
 -- each number of it is in range
 pub record IsOutgoing (o : Outgoing) : Type 0 where
@@ -106,8 +106,8 @@ pub record IsAlike (old new : Outgoing) : Type 0 where
 -- there is a line with room for each band
 pub record HaveRoom (h : Header) (lines : List Outgoing) : Type 0 where
   pub count : length lines ≡ bands_of h
-  pub groups : (band : ℕ) → band < bands_of h → length (slice_index_or lines band no_line).counts ≡ groups_of (band_width_of h band)
+  pub groups : (band : ℕ) → band < bands_of h → length (slice_index_or lines band no_outgoing).counts ≡ groups_of (band_width_of h band)
 
 -- and it has the band's mode
 abbrev pub HaveModes : Header → (ℕ → ℕ) → List Outgoing → Type 0
-HaveModes h mode lines = (band : ℕ) → band < bands_of h → (slice_index_or lines band no_line).mode ≡ mode band
+HaveModes h mode lines = (band : ℕ) → band < bands_of h → (slice_index_or lines band no_outgoing).mode ≡ mode band

@@ -4,7 +4,7 @@ use Rattle.std.specs.List.{flat_map, range_with_len}
 use Rattle.xs_lists.specs.Packing.{packed}
 use Rattle.xs_grammar.specs.Coded.{field_bytes}
 use Rattle.xs_grammar.specs.Packet.{packet_fields}
-use Rattle.xs_precinct_write.specs.Outgoing.{Outgoing, no_line, HasNumbers, own_flags, own_counts, own_data, own_signs}
+use Rattle.xs_precinct_write.specs.Outgoing.{Outgoing, no_outgoing, HasNumbers, own_flags, own_counts, own_data, own_signs}
 use Rattle.xs_precinct_write.specs.declared.write.line.LinePart.{LinePart}
 use Rattle.xs_precinct_write.specs.declared.write.line.LinePart.TheVariants.{Flags, Counts, Data, Signs}
 use Rattle.xs_precinct_write.specs.declared.write.packet.PacketLines.{PacketLines}
@@ -18,7 +18,7 @@ bits_in_part Signs apart o = own_signs apart o
 
 -- those of the lines of a packet, one after the other, and their bytes
 abbrev pub band_part : PacketLines → LinePart → ℕ → List ℕ
-band_part p part band = bits_in_part part p.apart (slice_index_or p.lines.now band no_line)
+band_part p part band = bits_in_part part p.apart (slice_index_or p.lines.now band no_outgoing)
 
 abbrev pub part_bits : PacketLines → LinePart → List ℕ
 part_bits p part = flat_map (band_part p part) (range_with_len p.first (p.end - p.first))
@@ -36,5 +36,5 @@ packet_out p = field_bytes (head_fields p) ++ (part_bytes p Flags ++ (part_bytes
 -- the lines are there, with their numbers, and each part is short
 pub record ArePacketLines (p : PacketLines) : Type 0 where
   pub there : p.end ≤ length p.lines.now
-  pub numbers : (band : ℕ) → p.first ≤ band → band < p.end → HasNumbers (slice_index_or p.lines.now band no_line)
+  pub numbers : (band : ℕ) → p.first ≤ band → band < p.end → HasNumbers (slice_index_or p.lines.now band no_outgoing)
   pub short : (part : LinePart) → length (part_bytes p part) ≤ 2 ^ 20

@@ -7,7 +7,7 @@ use Rattle.xs_geometry.specs.SliceLines.{AreLinesOf, rows_held}
 use Rattle.xs_grammar.specs.Precinct.{Content}
 use Rattle.xs_rate.specs.Chosen.{content_at, mode_of}
 use Rattle.xs_rate.specs.Laws.{AreSmall}
-use Rattle.xs_precinct_write.specs.Outgoing.{Outgoing, IsAlike, no_line}
+use Rattle.xs_precinct_write.specs.Outgoing.{Outgoing, IsAlike, no_outgoing}
 use Rattle.xs_precinct_write.specs.declared.write.slice.SliceAt.{SliceAt}
 
 -- its content, and the modes of the bands in a precinct
@@ -36,6 +36,6 @@ abbrev pub AreModesIn : SliceAt → ℕ → List ℕ → Type 0
 AreModesIn s precinct modes = (band : ℕ) → band < bands_of s.header.now → slice_index_or modes band 0 ≡ modes_in s precinct band
 
 -- lines of the same bands, in the same modes
-pub record AreAlike (old new : List Outgoing) : Type 0 where
+pub record AreLinesAlike (old new : List Outgoing) : Type 0 where
   pub count : length new ≡ length old
-  pub each : (band : ℕ) → IsAlike (slice_index_or old band no_line) (slice_index_or new band no_line)
+  pub each : (band : ℕ) → IsAlike (slice_index_or old band no_outgoing) (slice_index_or new band no_outgoing)

@@ -23,7 +23,7 @@ use Rattle.xs_recv.specs.declared.activity.SliceCopy.{SliceCopy}
 use Rattle.xs_recv.specs.declared.activity.SliceReading.{SliceReading}
 use Rattle.xs_recv.specs.declared.activity.Kept.{Kept}
 use Rattle.xs_recv.specs.Activities.{Doing, HasCopy, IsKept, IsReadBy, IsReadByKnown, Keeps}
-use Rattle.xs_recv.specs.Sweeping.{AreAlike, AreReadBy, GetsAll, GotIfWhole, IsGood, IsHeadOf, IsKeptOf, IsSettled}
+use Rattle.xs_recv.specs.Sweeping.{AreReadAlike, AreReadBy, GetsAll, GotIfWhole, IsGoodHead, IsHeadOf, IsKeptOf, IsSettled}
 use Rattle.xs_recv.specs.Filing.{HasFiled}
 use Rattle.xs_recv.proofs.Feeding.{filed_after}
 use Rattle.xs_recv.specs.Received.{offered_bytes}
@@ -54,7 +54,7 @@ head_ended : (v : Actor Offer) (units : ℕ) (known head : Option HeadRead) (kep
 head_ended v units known None kept s sated done low all k = λ whole. none_kept kept (unit_kept v 0 known None kept s sated k (whole_got v units 0 done low all whole))
 head_ended v units known (Some r) kept s sated done low all k = copies_have_bytes v 0 r.bytes done k.header
 
-read_by : (known : Option HeadRead) (s : HeadRead) (h : Header) (slice : ℕ) (bytes : List ℕ) (reading : SliceReading) → AreAlike known (Some s) → IsGood s h → IsReadByKnown known slice bytes reading → IsReadBy h slice bytes reading
+read_by : (known : Option HeadRead) (s : HeadRead) (h : Header) (slice : ℕ) (bytes : List ℕ) (reading : SliceReading) → AreReadAlike known (Some s) → IsGoodHead s h → IsReadByKnown known slice bytes reading → IsReadBy h slice bytes reading
 read_by known s h slice bytes reading alike good (inl e) = subst (IsReadBy h slice bytes) (sym e) tt
 read_by None s h slice bytes reading alike good (inr (other, (r, e, n, is), read)) = absurd (cc e)
 read_by (Some x) s h slice bytes reading alike (m, good) (inr (other, (r, e, n, is), read)) =
@@ -63,13 +63,13 @@ read_by (Some x) s h slice bytes reading alike (m, good) (inr (other, (r, e, n, 
     let one : other ≡ h = cc both in
     subst (λ (z : Header). IsReadBy z slice bytes reading) one read
 
-trusted_by : (known head : Option HeadRead) (kept : List SliceCopy) → AreAlike known head → All (λ (c : SliceCopy). IsReadByKnown known c.slice c.bytes c.reading) kept → IfSome head (λ (r : HeadRead). AreReadBy r kept)
+trusted_by : (known head : Option HeadRead) (kept : List SliceCopy) → AreReadAlike known head → All (λ (c : SliceCopy). IsReadByKnown known c.slice c.bytes c.reading) kept → IfSome head (λ (r : HeadRead). AreReadBy r kept)
 trusted_by known None kept alike all = tt
 trusted_by known (Some s) kept alike all = λ h good.
     All-weaker (λ (c : SliceCopy). IsReadByKnown known c.slice c.bytes c.reading) (λ (c : SliceCopy). IsReadBy h c.slice c.bytes c.reading) (λ c. read_by known s h c.slice c.bytes c.reading alike good) kept all
 
 pub ended : (v : Actor Offer) (units : ℕ) (known : Option HeadRead) (k : Kept) (s : Bool) → s ≡ false → IsDone packets v → AreIn units v.stored → ((unit : ℕ) → unit < units → GotIfWhole v unit) → Keeps v.got known k.head k.copies.items s
-    → (k.trusted ≡ true → AreAlike known k.head) → IsKeptOf (held_in v.stored) k
+    → (k.trusted ≡ true → AreReadAlike known k.head) → IsKeptOf (held_in v.stored) k
 ended v units known k s sated done low all keeps alike = record {
   head = head_ended v units known k.head k.copies.items s sated done low all keeps;
   copies = All-weaker (λ (c : SliceCopy). IsCopy v.got (c.slice + 1) c.bytes) (λ (c : SliceCopy). HasBytes (held_in v.stored) (c.slice + 1) c.bytes) (λ c. copies_have_bytes v (c.slice + 1) c.bytes done) k.copies.items keeps.copies;

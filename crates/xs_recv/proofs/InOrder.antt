@@ -12,7 +12,7 @@ use Rattle.xs_board.specs.declared.head.HeadRead.{HeadRead}
 use Rattle.xs_recv.specs.declared.activity.SliceCopy.{SliceCopy}
 use Rattle.xs_recv.specs.declared.activity.Kept.{Kept}
 use Rattle.xs_recv.specs.Activities.{HasCopy, IsReadBy}
-use Rattle.xs_recv.specs.Sweeping.{AreInOrder, AreReadBy, AreReadable, IsGood, IsKeptOf}
+use Rattle.xs_recv.specs.Sweeping.{AreInOrder, AreReadBy, AreReadable, IsGoodHead, IsKeptOf}
 use Rattle.xs_recv.proofs.Wholes.{all_whole}
 
 abbrev IsCopyAt : List SliceCopy → ℕ → Option SliceCopy → Type 0
@@ -88,11 +88,11 @@ readable_at held h trusted copies slice (Some c) bytes read at = (
   λ t. All-contains (λ (x : SliceCopy). IsReadBy h x.slice x.bytes x.reading) copies c (read t) at.0,
 )
 
-read_all : (head : Option HeadRead) (copies : List SliceCopy) (h : Header) → IsSome head → IfSome head (λ (r : HeadRead). IsGood r h) → IfSome head (λ (r : HeadRead). AreReadBy r copies) → All (λ (c : SliceCopy). IsReadBy h c.slice c.bytes c.reading) copies
+read_all : (head : Option HeadRead) (copies : List SliceCopy) (h : Header) → IsSome head → IfSome head (λ (r : HeadRead). IsGoodHead r h) → IfSome head (λ (r : HeadRead). AreReadBy r copies) → All (λ (c : SliceCopy). IsReadBy h c.slice c.bytes c.reading) copies
 read_all None copies h some good read = absurd (true≢false (sym some))
 read_all (Some r) copies h some good read = read h good
 
-pub readable : (held : Held) (h : Header) (k : Kept) (places : List (Option SliceCopy)) → IsBounded held → IsKeptOf held k → IsSome k.head → IfSome k.head (λ (r : HeadRead). IsGood r h) → AreMissing held (slice_count h) []
+pub readable : (held : Held) (h : Header) (k : Kept) (places : List (Option SliceCopy)) → IsBounded held → IsKeptOf held k → IsSome k.head → IfSome k.head (λ (r : HeadRead). IsGoodHead r h) → AreMissing held (slice_count h) []
     → AreInOrder k.copies.items (slice_count h) places → AreReadable held h k.trusted places
 readable held h k places bounded kept some good missing order = record {
   count = order.size;

@@ -13,7 +13,7 @@ use Rattle.xs_board.specs.declared.board.BoardPass.{BoardPass}
 use Rattle.xs_board.specs.Passes.{IsBoardPass, unit_count, actor}
 use Rattle.xs_recv.specs.Activities.{Doing}
 use Rattle.xs_recv.specs.declared.activity.Feed.{Feed}
-use Rattle.xs_recv.specs.Filing.{AreFiledBy, AreForked, HasFiled, HasRun, IsFedBy, IsFresh, MayJoin, fed}
+use Rattle.xs_recv.specs.Filing.{AreFiledBy, AreForked, HasFiled, HasRun, IsFedBy, IsUnusedBoardPass, MayJoin, fed}
 
 -- Lists
 
@@ -45,14 +45,14 @@ module _ {A : Type 0} where
 
 -- Passes are split off
 
-copied_fresh : (v : Actor Offer) → IsFresh (copied v)
+copied_fresh : (v : Actor Offer) → IsUnusedBoardPass (copied v)
 copied_fresh v = record { stored = refl; repeated = refl; got = refl }
 
-pub fresh_of : (v w : Actor Offer) → w ≡ copied v → IsFresh w
-fresh_of v w e = subst IsFresh (sym e) (copied_fresh v)
+pub fresh_of : (v w : Actor Offer) → w ≡ copied v → IsUnusedBoardPass w
+fresh_of v w e = subst IsUnusedBoardPass (sym e) (copied_fresh v)
 
-pub newcomer_fresh : (w : Actor Offer) → w ≡ newcomer → IsFresh w
-newcomer_fresh w e = subst IsFresh (sym e) (record { stored = refl; repeated = refl; got = refl })
+pub newcomer_fresh : (w : Actor Offer) → w ≡ newcomer → IsUnusedBoardPass w
+newcomer_fresh w e = subst IsUnusedBoardPass (sym e) (record { stored = refl; repeated = refl; got = refl })
 
 pub forked_none : (b : Board) (first : BoardPass) (others : List Doing) → IsBoardPass b first → actor first ≡ newcomer → others ≡ [] → AreForked b [] first others
 forked_none b first others pass e none = subst (λ (l : List Doing). AreForked b [] first l) (sym none) record {
@@ -61,7 +61,7 @@ forked_none b first others pass e none = subst (λ (l : List Doing). AreForked b
   fresh = newcomer_fresh (actor first) e;
   passes = All-nil (λ (a : Doing). IsBoardPass b a.pass);
   shares = λ i d lt. absurd (omega (arith, lt));
-  idle = All-nil (λ (a : Doing). IsFresh (actor a.pass));
+  idle = All-nil (λ (a : Doing). IsUnusedBoardPass (actor a.pass));
   units = All-nil (λ (a : Doing). All (λ (p : Offer). p.unit < unit_count b) a.part);
   within = All-nil (λ (a : Doing). All (Contains []) a.part);
   each = All-nil (IsFedBy []);
@@ -70,7 +70,7 @@ forked_none b first others pass e none = subst (λ (l : List Doing). AreForked b
 fed_still : (others : List Doing) (a : Doing) (p : Offer) → IsFedBy others p → IsFedBy (others ++ a ∷ []) p
 fed_still others a p (x, has, is) = (x, Contains-append_left others (a ∷ []) x has, is)
 
-half_fresh : (v : Actor Offer) → IsFresh v → IsFresh (halves v)
+half_fresh : (v : Actor Offer) → IsUnusedBoardPass v → IsUnusedBoardPass (halves v)
 half_fresh v f = record { stored = f.stored; repeated = f.repeated; got = f.got }
 
 pub forked_more : (b : Board) (offers part : List Offer) (first now : BoardPass) (others all : List Doing) (a : Doing) → all ≡ others ++ a ∷ [] → IsBoardPass b now → actor now ≡ halves (actor first) → IsBoardPass b a.pass → actor a.pass ≡ copied (actor first)
@@ -78,10 +78,10 @@ pub forked_more : (b : Board) (offers part : List Offer) (first now : BoardPass)
 forked_more b offers part first now others all a e pass half theirs copy is units f = subst (λ (l : List Doing). AreForked b (part ++ offers) now l) (sym e) record {
   pass = pass;
   share = subst (λ n. HasPart n (actor now)) more (subst (HasPart (length others + 1)) (sym half) shared.0);
-  fresh = subst IsFresh (sym half) (half_fresh (actor first) f.fresh);
+  fresh = subst IsUnusedBoardPass (sym half) (half_fresh (actor first) f.fresh);
   passes = All-push (λ (x : Doing). IsBoardPass b x.pass) others a f.passes theirs;
   shares = pushes (λ i (x : Doing). HasPart (i + 1) (actor x.pass)) others a f.shares (subst (HasPart (length others + 1)) (sym copy) shared.1);
-  idle = All-push (λ (x : Doing). IsFresh (actor x.pass)) others a f.idle (fresh_of (actor first) (actor a.pass) copy);
+  idle = All-push (λ (x : Doing). IsUnusedBoardPass (actor x.pass)) others a f.idle (fresh_of (actor first) (actor a.pass) copy);
   units = All-push (λ (x : Doing). All (λ (p : Offer). p.unit < unit_count b) x.part) others a f.units (subst (All (λ (p : Offer). p.unit < unit_count b)) (sym is) units);
   within = All-push (λ (x : Doing). All (Contains (part ++ offers)) x.part) others a
       (All-weaker (λ (x : Doing). All (Contains offers) x.part) (λ (x : Doing). All (Contains (part ++ offers)) x.part) (λ x within. All-weaker (Contains offers) (Contains (part ++ offers)) (Contains-append_right part offers) x.part within) others f.within)

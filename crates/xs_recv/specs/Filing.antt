@@ -40,7 +40,7 @@ abbrev pub AreOf : ℕ → List Feed → Type 0
 AreOf units feeds = All (λ (f : Feed). All (λ (p : Offer). p.unit < units) f.part.items) feeds
 
 -- the pass did nothing
-pub record IsFresh (v : Actor Offer) : Type 0 where
+pub record IsUnusedBoardPass (v : Actor Offer) : Type 0 where
   pub stored : v.stored ≡ []
   pub repeated : v.repeated ≡ []
   pub got : v.got ≡ []
@@ -53,10 +53,10 @@ IsFedBy others p = (a : Doing) × Contains others a × Contains a.part p
 pub record AreForked (b : Board) (offers : List Offer) (first : BoardPass) (others : List Doing) : Type 0 where
   pub pass : IsBoardPass b first
   pub share : HasPart (length others) (actor first)
-  pub fresh : IsFresh (actor first)
+  pub fresh : IsUnusedBoardPass (actor first)
   pub passes : All (λ (a : Doing). IsBoardPass b a.pass) others
   pub shares : (i : ℕ) (d : Doing) → i < length others → HasPart (i + 1) (actor (slice_index_or others i d).pass)
-  pub idle : All (λ (a : Doing). IsFresh (actor a.pass)) others
+  pub idle : All (λ (a : Doing). IsUnusedBoardPass (actor a.pass)) others
   pub units : All (λ (a : Doing). All (λ (p : Offer). p.unit < unit_count b) a.part) others
   pub within : All (λ (a : Doing). All (Contains offers) a.part) others
   pub each : All (IsFedBy others) offers

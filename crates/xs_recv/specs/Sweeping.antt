@@ -20,8 +20,8 @@ use Rattle.xs_recv.specs.Filed.{IsReceivable}
 use Rattle.xs_recv.specs.Activities.{Doing, HasCopy, IsReadBy}
 
 -- the unit that was read has this header
-abbrev pub IsGood : HeadRead → Header → Type 0
-IsGood r h = (n : ℕ) × (r.reading ≡ Good h n)
+abbrev pub IsGoodHead : HeadRead → Header → Type 0
+IsGoodHead r h = (n : ℕ) × (r.reading ≡ Good h n)
 
 -- who is starved stays so
 abbrev pub StarvesNot : Doing → Doing → Type 0
@@ -60,11 +60,11 @@ GetsAll units old new = IsAlone (actor old.pass) → new.starved ≡ false → (
 
 -- what is read of the copies is read by the header of this unit
 abbrev pub AreReadBy : HeadRead → List SliceCopy → Type 0
-AreReadBy r kept = (h : Header) → IsGood r h → All (λ (c : SliceCopy). IsReadBy h c.slice c.bytes c.reading) kept
+AreReadBy r kept = (h : Header) → IsGoodHead r h → All (λ (c : SliceCopy). IsReadBy h c.slice c.bytes c.reading) kept
 
 -- the header that is known and this one have the same reading
-abbrev pub AreAlike : Option HeadRead → Option HeadRead → Type 0
-AreAlike known head = IfSome known (λ (r : HeadRead). IfSome head (λ (s : HeadRead). r.reading ≡ s.reading))
+abbrev pub AreReadAlike : Option HeadRead → Option HeadRead → Type 0
+AreReadAlike known head = IfSome known (λ (r : HeadRead). IfSome head (λ (s : HeadRead). r.reading ≡ s.reading))
 
 -- the header unit is kept, or it is not whole
 abbrev pub IsHeadOf : Held → Option HeadRead → Type 0

@@ -80,7 +80,7 @@ pub(crate) struct Kept {
 
 // What is kept, and the board that is closed.
 #[derive(Drop)]
-pub(crate) struct Ended {
+pub(crate) struct SweepEnd {
     pub(crate) board: ClosedBoard,
     pub(crate) kept: Kept,
 }

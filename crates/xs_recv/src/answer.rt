@@ -9,7 +9,7 @@ ghost use Rattle.xs_recv.specs.Filed.{IsReceivable};
 ghost use Rattle.xs_recv.specs.Received.{HasHeader, IsReceived};
 ghost use Rattle.xs_recv.specs.Reading.{AreRead, IsSliceStop, IsStop};
 ghost use Rattle.xs_recv.specs.Activities.{IsReadBy};
-ghost use Rattle.xs_recv.specs.Sweeping.{AreInOrder, AreReadable, IsGood, IsHeadOf, IsKeptOf};
+ghost use Rattle.xs_recv.specs.Sweeping.{AreInOrder, AreReadable, IsGoodHead, IsHeadOf, IsKeptOf};
 
 use crate::activity::{Kept, Places, SliceCopy, SliceReading};
 use crate::head::spell_header;
@@ -66,7 +66,7 @@ fn find_header(
     ensures found { MatchResult result (λ found. HasHeader (held_in board.now.actor.stored) found.0 found.1) (IsStop (held_in board.now.actor.stored)) }
     ensures whole { IfOk result (λ found. AreMissing (held_in board.now.actor.stored) (slice_count found.0) []) }
     ensures some { IfOk result (λ _. IsSome head) }
-    ensures good { IfOk result (λ found. IfSome head (λ r. IsGood r found.0)) }
+    ensures good { IfOk result (λ found. IfSome head (λ r. IsGoodHead r found.0)) }
 {
     let Some(head) = head else {
         return Err(Stop::Answer(Received::Missing {

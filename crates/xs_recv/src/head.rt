@@ -3,7 +3,7 @@ ghost use Rattle.std.specs.Prelude.{◌≡◌, None, IfSome};
 ghost use Rattle.xs_grammar.specs.Header.{IsHeaderUnit};
 ghost use Rattle.xs_markers.specs.Units.{header_unit_at, header_unit_fault};
 ghost use Rattle.xs_params.specs.Accepted.{IsAccepted};
-ghost use Rattle.xs_recv.specs.Sweeping.{IsGood};
+ghost use Rattle.xs_recv.specs.Sweeping.{IsGoodHead};
 
 use xs_board::{HeadRead, Reading};
 use xs_params::Header;
@@ -17,7 +17,7 @@ pub(crate) fn spell_header(bytes: &[u8])
 
 // The header, where the unit has one.
 pub(crate) fn header_of(head: &HeadRead) -> Option<&Header>
-    ensures good { IfSome result (λ h. IsGood head.now h.now) }
+    ensures good { IfSome result (λ h. IsGoodHead head.now h.now) }
     ensures accepted { IfSome result (λ h. IsAccepted h.now) }
 {
     spell_header(head.bytes.as_slice());

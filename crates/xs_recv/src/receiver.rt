@@ -6,7 +6,7 @@ ghost use Rattle.xs_stored.specs.Stored.{held_in, packets};
 ghost use Rattle.xs_recv.specs.Received.{IsReceived, offered_bytes, offers_of_parts};
 ghost use Rattle.xs_recv.specs.Sweeping.{GotWholes, IsKeptOf, IsSettled};
 
-use crate::activity::{Activity, Ended, Role, Team};
+use crate::activity::{Activity, Role, SweepEnd, Team};
 use crate::answer::answer;
 use crate::feeds::feeds_of;
 use crate::received::{Received, Reception, Stop};
@@ -35,7 +35,7 @@ pub fn receive_picture<T: Threads + Sync, G: Gate>(
     ensures done { IfOk result (λ r. IsDone packets r.board.actor) }
     ensures got { IfOk result (λ r. GotWholes r.board.actor) }
 {
-    let Ended { board, kept } = collect(threads, alloc, parts, workers, gate)?;
+    let SweepEnd { board, kept } = collect(threads, alloc, parts, workers, gate)?;
     match answer(alloc, &board, kept) {
         Ok(picture) => Ok(Reception {
             received: Received::Picture(picture),
@@ -53,7 +53,7 @@ fn collect<T: Threads + Sync, G: Gate>(
     parts: Parts,
     workers: u32,
     gate: &G,
-) -> Result<Ended, Memory>
+) -> Result<SweepEnd, Memory>
     requires parts { length parts ≤ 8 }
     requires bytes { offered_bytes (offers_of_parts parts) < 2 ^ 32 }
     ensures kept { IfOk result (λ e. IsKeptOf (held_in e.board.actor.stored) e.kept) }

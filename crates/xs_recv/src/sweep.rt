@@ -6,9 +6,9 @@ ghost use Rattle.xs_lanes.specs.Settled.{IsDone};
 ghost use Rattle.xs_stored.specs.Stored.{held_in, packets};
 ghost use Rattle.xs_board.specs.Passes.{IsBoardPass, actor, knows, unit_count};
 ghost use Rattle.xs_board.specs.Answers.{FilesNothing, GetsMore};
-ghost use Rattle.xs_recv.specs.Sweeping.{AreAlike, GetsAbove, GetsAll, GotIfWhole, IsKeptOf, StarvesNot};
+ghost use Rattle.xs_recv.specs.Sweeping.{AreReadAlike, GetsAbove, GetsAll, GotIfWhole, IsKeptOf, StarvesNot};
 
-use crate::activity::{Activity, Ended, Kept};
+use crate::activity::{Activity, Kept, SweepEnd};
 use xs_board::{Board, BoardPass, HeadRead};
 
 impl Activity {
@@ -48,7 +48,7 @@ impl Activity {
     }
 
     // Closes the board.
-    pub(crate) fn end(self, board: Board) -> Ended
+    pub(crate) fn end(self, board: Board) -> SweepEnd
         requires pass { IsBoardPass board self.pass }
         requires alone { IsAlone (actor self.pass) }
         requires sated { self.starved ≡ false }
@@ -73,7 +73,7 @@ impl Activity {
             copies: kept,
             trusted,
         };
-        Ended {
+        SweepEnd {
             board: board.close(pass),
             kept,
         }
@@ -85,7 +85,7 @@ fn is_shown(board: &Board, pass: &mut BoardPass, head: &Option<HeadRead>) -> boo
     requires pass { IsBoardPass board.now pass.old }
     ensures pass { IsBoardPass board.now pass.new }
     ensures same { actor pass.new ≡ actor pass.old }
-    ensures shown { result ≡ true → AreAlike (knows pass.old) head.now }
+    ensures shown { result ≡ true → AreReadAlike (knows pass.old) head.now }
 {
     let Some(head) = head else {
         return false;

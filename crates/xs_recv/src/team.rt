@@ -3,7 +3,7 @@ ghost use Rattle.std.specs.Prelude.{◌≡◌, ◌<◌, ◌++◌, ◌∷◌, [],
 ghost use Rattle.xs_lane_core.specs.Machine.{newcomer};
 ghost use Rattle.xs_capture.specs.Offer.{Offer};
 ghost use Rattle.xs_board.specs.Passes.{IsBoardPass, actor, unit_count};
-ghost use Rattle.xs_recv.specs.Filing.{AreForked, AreOf, HasRun, IsFresh, fed};
+ghost use Rattle.xs_recv.specs.Filing.{AreForked, AreOf, HasRun, IsUnusedBoardPass, fed};
 
 use crate::activity::{Activity, Feed, Role, Team};
 use std::alloc::Global;
@@ -16,7 +16,7 @@ use xs_io::{Gate, Memory};
 impl Activity {
     // One that did nothing.
     pub(crate) fn new(alloc: Global, pass: BoardPass, part: Vec<Packet>, role: Role) -> Activity
-        requires { IsFresh (actor pass) }
+        requires { IsUnusedBoardPass (actor pass) }
         ensures pass { result.pass ≡ pass }
         ensures part { result.part ≡ part.items }
     {

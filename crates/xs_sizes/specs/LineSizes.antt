@@ -6,7 +6,7 @@ use Rattle.xs_layout.specs.declared.Quant.TheVariants.{DeadZone, Uniform}
 use Rattle.xs_spelling.specs.Sizes.{signs_size}
 use Rattle.xs_sizes.specs.Cut.{CutSizes, sent_line}
 use Rattle.xs_sizes.specs.Lengths.{AreCountSizes}
-use Rattle.xs_sizes.specs.declared.line.Planes.{Planes}
+use Rattle.xs_sizes.specs.declared.line.LinePlanes.{LinePlanes}
 use Rattle.xs_sizes.specs.declared.line.LineSizes.{LineSizes}
 
 -- the bits of the counts at the next truncation; past the last one each count has one bit
@@ -38,7 +38,7 @@ pub record AreLineSizes (above planes : List ℕ) (row : ℕ → ℤ) (with_sign
   pub uniform : with_signs ≡ true → AreSignSizes Uniform row (length planes) line.uniform
 
 -- the planes of a line, and those above it
-pub record ArePlanes (p : Planes) : Type 0 where
+pub record ArePlanes (p : LinePlanes) : Type 0 where
   pub counts : AreCounts p.planes.now
   pub above_counts : AreCounts p.above.now
   pub above_size : length p.above.now ≡ length p.planes.now

@@ -11,7 +11,7 @@ ghost use Rattle.xs_sizes.specs.Lengths.{AreLengths};
 ghost use Rattle.xs_sizes.specs.LineSizes.{AreAdded};
 ghost use Rattle.xs_sizes.specs.Counted.{IsBandCounted};
 
-use crate::line::{LineSizes, Planes, line_sizes};
+use crate::line::{LinePlanes, LineSizes, line_sizes};
 use std::alloc::Global;
 use xs_geometry::{Geometry, SliceRows};
 use xs_groups::count_planes;
@@ -113,7 +113,7 @@ fn add_line(
     ensures size { OnOk result (length scratch.new.planes.items ≡ length scratch.old.planes.items) }
 {
     fill(scratch, row);
-    let planes = Planes {
+    let planes = LinePlanes {
         planes: scratch.planes.as_slice(),
         above: scratch.above.as_slice(),
     };

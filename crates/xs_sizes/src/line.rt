@@ -14,7 +14,7 @@ use xs_layout::Quant;
 
 /// The planes of a line's code groups, and those of the line above.
 #[derive(Clone, Copy)]
-pub struct Planes<'a> {
+pub struct LinePlanes<'a> {
     pub planes: &'a [u8],
     pub above: &'a [u8],
 }
@@ -31,7 +31,7 @@ pub struct LineSizes {
 }
 
 /// What a row has whose code groups have these planes, under those planes.
-pub fn line_sizes(table: &[[u8; 16]], planes: &Planes, row: &[i32], signs: bool) -> LineSizes
+pub fn line_sizes(table: &[[u8; 16]], planes: &LinePlanes, row: &[i32], signs: bool) -> LineSizes
     requires table { AreLengths table.now }
     requires planes { ArePlanes planes.now }
     requires small { IsSmallRow (entries_of row.now) }

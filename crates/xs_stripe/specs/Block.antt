@@ -3,8 +3,8 @@ use Rattle.std.specs.Prelude.{ℕ, ◌-◌, ◌≤◌, List, [], ◌∷◌, take
 use Rattle.xs_stripe.specs.declared.place.RowPlace.{RowPlace}
 
 -- the rows that stand at these places
-abbrev pub rows_in : {T : Type 0} → List RowPlace → List T → List (List T)
-rows_in places numbers = map (λ place. take (place.end - place.start) (drop place.start numbers)) places
+abbrev pub rows_at_places : {T : Type 0} → List RowPlace → List T → List (List T)
+rows_at_places places numbers = map (λ place. take (place.end - place.start) (drop place.start numbers)) places
 
 -- each place is one among so many numbers
 abbrev pub StandIn : ℕ → List RowPlace → Type 0

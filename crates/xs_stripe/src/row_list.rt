@@ -15,11 +15,11 @@ pub struct RowList {
 
 impl Model for RowList {
     ghost use Rattle.std.specs.Prelude.{List, ℤ, length};
-    ghost use Rattle.xs_stripe.specs.Block.{StandIn, rows_in};
+    ghost use Rattle.xs_stripe.specs.Block.{StandIn, rows_at_places};
 
     ghost Value = { List (List ℤ) };
 
-    ghost view = { λ s. rows_in s.places.items s.numbers.items };
+    ghost view = { λ s. rows_at_places s.places.items s.numbers.items };
 
     ghost invariant = { λ s. StandIn (length s.numbers.items) s.places.items };
 }

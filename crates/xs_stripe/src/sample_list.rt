@@ -15,11 +15,11 @@ pub struct SampleList {
 
 impl Model for SampleList {
     ghost use Rattle.std.specs.Prelude.{List, ℕ, length};
-    ghost use Rattle.xs_stripe.specs.Block.{StandIn, rows_in};
+    ghost use Rattle.xs_stripe.specs.Block.{StandIn, rows_at_places};
 
     ghost Value = { List (List ℕ) };
 
-    ghost view = { λ s. rows_in s.places.items s.samples.items };
+    ghost view = { λ s. rows_at_places s.places.items s.samples.items };
 
     ghost invariant = { λ s. StandIn (length s.samples.items) s.places.items };
 }

@@ -43,12 +43,14 @@ impl StreamCoefs {
         self.slices.push(slice).map_err(|_| Memory)
     }
 
+    /// The header of all slices.
     pub fn header(&self) -> &Header
         ensures { result.now ≡ self.now.header }
     {
         &self.header
     }
 
+    /// The rows of the slice with this number.
     pub fn slice(&self, number: u32) -> &SliceRows
         requires { number < length self.now.slices }
         ensures { result.now ≡ slice_index_or self.now.slices number [] }

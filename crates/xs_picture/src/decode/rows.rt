@@ -2,7 +2,7 @@
 ghost use Rattle.std.specs.Prelude.{◌≡◌, ◌-◌, ◌*◌, ◌^◌, ◌<◌, ◌≤◌};
 ghost use Rattle.xs_params.specs.Geometry.{bands_of};
 ghost use Rattle.xs_geometry.specs.SliceLines.{slice_height};
-ghost use Rattle.xs_picture.specs.Coefs.{AreCoefs, row_in};
+ghost use Rattle.xs_picture.specs.Coefs.{AreCoefs, row_of_slices};
 
 use crate::decode::coefs::StreamCoefs;
 use std::marker::Model;
@@ -29,6 +29,7 @@ impl<'a> Model for StreamRows<'a> {
 }
 
 impl<'a> StreamRows<'a> {
+    /// The rows of these coefficients.
     pub fn of(coefs: &'a StreamCoefs) -> StreamRows<'a>
         requires { AreCoefs coefs.now }
         ensures { result ≡ coefs.now }
@@ -51,7 +52,7 @@ impl<'a> StreamRows<'a> {
 }
 
 impl<'a> CoefficientRows for StreamRows<'a> {
-    ghost rows = { λ s. row_in s.header s.slices };
+    ghost rows = { λ s. row_of_slices s.header s.slices };
 
     fn row(&self, band: u32, line: u32) -> &[i32] {
         let coefs = self.coefs;

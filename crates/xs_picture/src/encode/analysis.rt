@@ -8,7 +8,8 @@ ghost use Rattle.xs_params.specs.Picture.{AreSamples, Picture};
 ghost use Rattle.xs_signal.specs.Lines.{AllBelow, entries_of};
 ghost use Rattle.xs_signal.specs.Samples.{scale_in as scaled_in};
 ghost use Rattle.xs_splitter.specs.Chain.{split_by};
-ghost use Rattle.xs_picture.specs.Analysed.{AreBandsOf, AreComponentBandsOf, IsGiven, IsLine, IsSplitUp, component_split, rows_by_type};
+ghost use Rattle.xs_stripe.specs.Joined.{component_split};
+ghost use Rattle.xs_picture.specs.Analysed.{AreBandsOf, AreComponentBandsOf, IsGiven, IsLine, IsSplitUp, rows_by_type};
 
 use crate::encode::bands::PictureBands;
 use crate::encode::colours::analyse_colours;

@@ -25,7 +25,7 @@ struct ColourSamples<'a> {
 
 /// A row of luma and of both differences.
 #[derive(Drop)]
-pub struct ColourRows {
+pub struct DifferenceRows {
     pub luma: Vec<i32>,
     pub first: Vec<i32>,
     pub second: Vec<i32>,
@@ -45,7 +45,7 @@ pub fn analyse_colours(
     let mut luma = component_splitter(alloc, header, 0)?;
     let mut first = component_splitter(alloc, header, 1)?;
     let mut second = component_splitter(alloc, header, 2)?;
-    let mut rows = ColourRows::zeros(alloc, header.shape.width as usize)?;
+    let mut rows = DifferenceRows::zeros(alloc, header.shape.width as usize)?;
     'lines: for line in 0..header.shape.height {
         rows.fill(picture, header, line);
         luma.push(alloc, rows.luma.as_slice())?;
@@ -75,9 +75,9 @@ fn bands_of_three(
     Ok(bands)
 }
 
-impl ColourRows {
+impl DifferenceRows {
     /// Rows of zeros.
-    pub fn zeros(alloc: Global, width: usize) -> Result<ColourRows, Memory>
+    pub fn zeros(alloc: Global, width: usize) -> Result<DifferenceRows, Memory>
         ensures luma { IfOk result (λ rows. length rows.luma.items ≡ width) }
         ensures first { IfOk result (λ rows. length rows.first.items ≡ width) }
         ensures second { IfOk result (λ rows. length rows.second.items ≡ width) }
@@ -85,7 +85,7 @@ impl ColourRows {
         let luma = zeros(alloc, width)?;
         let first = zeros(alloc, width)?;
         let second = zeros(alloc, width)?;
-        Ok(ColourRows {
+        Ok(DifferenceRows {
             luma,
             first,
             second,

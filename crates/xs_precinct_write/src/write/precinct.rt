@@ -10,8 +10,8 @@ ghost use Rattle.xs_geometry.specs.SliceLines.{AreLinesOf, rows_held};
 ghost use Rattle.xs_grammar.specs.Coded.{field_bytes, packet_bytes, packet_fits, packets_bytes, precinct_body as body_bytes, precinct_bytes, precinct_fits};
 ghost use Rattle.xs_rate.specs.Choice.{precinct_bytes_at, precinct_fits_at};
 ghost use Rattle.xs_rate.specs.Laws.{AreSmall};
-ghost use Rattle.xs_precinct_write.specs.Outgoing.{HaveModes, HaveRoom, no_line};
-ghost use Rattle.xs_precinct_write.specs.Sent.{AreAlike, AreModesIn, HasPrecinct, content_in, modes_in};
+ghost use Rattle.xs_precinct_write.specs.Outgoing.{HaveModes, HaveRoom, no_outgoing};
+ghost use Rattle.xs_precinct_write.specs.Sent.{AreLinesAlike, AreModesIn, HasPrecinct, content_in, modes_in};
 
 use crate::write::line::OutgoingLine;
 use crate::write::modes::{modes_at, set_modes};
@@ -149,7 +149,7 @@ fn precinct_body(
     requires modes { HaveModes at.now.header.now (modes_in at.now wanted.precinct) lines.old }
     requires fits { precinct_fits at.now.header.now (content_in at.now) (modes_in at.now) (λ _. wanted.filler) wanted.precinct ≡ true }
     ensures body { IfOk result (λ body. body ≡ body_bytes at.now.header.now (content_in at.now) (modes_in at.now) (λ _. wanted.filler) wanted.precinct) }
-    ensures alike { AreAlike lines.old lines.new }
+    ensures alike { AreLinesAlike lines.old lines.new }
 {
     let mut out = BitWriter::new(alloc);
     write_packets(at, wanted.precinct, lines, &mut out)?;
@@ -180,7 +180,7 @@ fn write_packets(
     requires fits { (number : ℕ) → number < length (packets_of at.now.header.now precinct) → packet_fits at.now.header.now (content_in at.now) (modes_in at.now precinct) (packet_at at.now.header.now precinct number) ≡ true }
     ensures bits { OnOk result (out.new.bits ≡ out.old.bits ++ bits_of_bytes (packets_bytes at.now.header.now (content_in at.now) (modes_in at.now) precinct)) }
     ensures border { OnOk result (length out.new.bits % 8 ≡ 0) }
-    ensures alike { AreAlike lines.old lines.new }
+    ensures alike { AreLinesAlike lines.old lines.new }
 {
     'packets: for number in 0..at.geometry.packets(precinct) {
         send_packet(at, (precinct, number), lines, out)?;
@@ -203,7 +203,7 @@ fn send_packet(
     requires fits { packet_fits at.now.header.now (content_in at.now) (modes_in at.now place.0) (packet_at at.now.header.now place.0 place.1) ≡ true }
     ensures bits { OnOk result (out.new.bits ≡ out.old.bits ++ bits_of_bytes (packet_bytes at.now.header.now (content_in at.now) (modes_in at.now place.0) (packet_at at.now.header.now place.0 place.1))) }
     ensures border { OnOk result (length out.new.bits % 8 ≡ 0) }
-    ensures alike { AreAlike lines.old lines.new }
+    ensures alike { AreLinesAlike lines.old lines.new }
 {
     let packet = at.geometry.packet(place.0, place.1);
     let (first, end) = at.geometry.packet_bands(packet);
@@ -227,7 +227,7 @@ fn with_head(
 ) -> Result<Octets, Memory>
     requires few { length lines.now ≤ 30 }
     requires fits { length body.now < 2 ^ 24 }
-    ensures { IfOk result (λ whole. whole ≡ field_bytes ((24, length body.now) ∷ (8, candidate.q) ∷ (8, candidate.r) ∷ map (λ band. (2, (slice_index_or lines.now band no_line).mode)) (upto (length lines.now))) ++ body.now) }
+    ensures { IfOk result (λ whole. whole ≡ field_bytes ((24, length body.now) ∷ (8, candidate.q) ∷ (8, candidate.r) ∷ map (λ band. (2, (slice_index_or lines.now band no_outgoing).mode)) (upto (length lines.now))) ++ body.now) }
 {
     let mut out = BitWriter::new(alloc);
     out.reserve(112)?;

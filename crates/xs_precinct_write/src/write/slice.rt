@@ -5,8 +5,8 @@ ghost use Rattle.xs_layout.specs.Weighting.{truncation_of};
 ghost use Rattle.xs_params.specs.Geometry.{band_width_of, bands_of};
 ghost use Rattle.xs_geometry.specs.SliceLines.{HasLine, rows_held};
 ghost use Rattle.xs_grammar.specs.Precinct.{coded_line, weight_of};
-ghost use Rattle.xs_precinct_write.specs.Outgoing.{HaveRoom, IsAlike, IsCounted, IsSentAs, no_line};
-ghost use Rattle.xs_precinct_write.specs.Sent.{AreAlike, IsSliceAt, content_in};
+ghost use Rattle.xs_precinct_write.specs.Outgoing.{HaveRoom, IsAlike, IsCounted, IsSentAs, no_outgoing};
+ghost use Rattle.xs_precinct_write.specs.Sent.{AreLinesAlike, IsSliceAt, content_in};
 
 use crate::write::line::OutgoingLine;
 use xs_geometry::{Geometry, SliceRows, truncation};
@@ -65,8 +65,8 @@ pub fn load_lines(at: &SliceAt, bands: (u32, u32), number: u32, lines: &mut [Out
     requires there { (band : ℕ) → bands.0 ≤ band → band < bands.1 → HasLine at.now.rows.now band number }
     requires end { bands.1 ≤ bands_of at.now.header.now }
     requires room { HaveRoom at.now.header.now lines.old }
-    ensures sent { (band : ℕ) → bands.0 ≤ band → band < bands.1 → IsSentAs (coded_line at.now.header.now (content_in at.now) (slice_index_or lines.old band no_line).mode band number) (slice_index_or lines.new band no_line) }
-    ensures alike { AreAlike lines.old lines.new }
+    ensures sent { (band : ℕ) → bands.0 ≤ band → band < bands.1 → IsSentAs (coded_line at.now.header.now (content_in at.now) (slice_index_or lines.old band no_outgoing).mode band number) (slice_index_or lines.new band no_outgoing) }
+    ensures alike { AreLinesAlike lines.old lines.new }
 {
     'bands: for band in bands.0..bands.1 {
         load_line(at, band, number, &mut lines[band as usize]);

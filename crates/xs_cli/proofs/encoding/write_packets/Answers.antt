@@ -1,7 +1,7 @@
 use Rattle.std.proofs.Common.{rules, ◌≡◌, Err, sym, subst}
 use Rattle.std.specs.Prelude.{All}
 use Rattle.std.specs.List.{flat_map}
-use Rattle.xs_cli.specs.Encoded.{HasRoom, enveloped}
+use Rattle.xs_cli.specs.Encoded.{FitsEnvelope, enveloped}
 use Rattle.xs_pack.specs.Datagrams.{datagrams_of}
 use Rattle.xs_endings.specs.declared.stop.Stop.TheVariants as stop
 use Rattle.xs_endings.proofs.Changes.{front_of_none}
@@ -15,7 +15,7 @@ returns-in_err-packets-clause-taken g c =
 
 pub give_packets-requires : goal.give_packets-requires
 give_packets-requires g c = record {
-  short = subst (All HasRoom) (sym c.in_ok-packets.ensures) (short_datagrams c.args.settings.now c.args.stream.now c.args.place.picture c.args.place.sequence c.requires.range);
+  short = subst (All FitsEnvelope) (sym c.in_ok-packets.ensures) (short_datagrams c.args.settings.now c.args.stream.now c.args.place.picture c.args.place.sequence c.requires.range);
 }
 
 pub returns-clause-taken : goal.returns-clause-taken

@@ -5,7 +5,7 @@ use Rattle.xs_lane_core.specs.Machine.{Actor}
 use Rattle.xs_lanes.specs.Passes.{view}
 use Rattle.xs_enc_lanes.specs.declared.activity.Activity.{Activity}
 use Rattle.xs_enc_lanes.specs.Rows.{Carried}
-use Rattle.xs_enc_lanes.specs.Working.{HasRun, IsFresh, MayJoin}
+use Rattle.xs_enc_lanes.specs.Working.{HasRun, IsUnusedPass, MayJoin}
 use Rattle.xs_enc_lanes.proofs.Ending.{swept_of}
 use Rattle.xs_enc_lanes.proofs.Lent.{back, each_back, length_back}
 use Rattle.xs_enc_lanes.proofs.Teams.{are_joined, may_join}
@@ -31,7 +31,7 @@ gather-requires-clause-joined g c =
     let n = c.args.team.others.len in
     let size = c.args.team.others.ok.0 in
     let made = subst (λ (l : List Activity). (i : ℕ) (d : Activity) → i < length l → HasRun c.args.job.now (get_or l i d) (get_or c.run_all.new.activities i d)) c.as_mut_slice.ensures.value c.run_all.ensures in
-    let fresh = subst (λ (p : Seat (Option Carried) (Actor Carried)). IsFresh (view p)) (sym c.new-caller.ensures.pass) c.requires.forked.fresh in
+    let fresh = subst (λ (p : Seat (Option Carried) (Actor Carried)). IsUnusedPass (view p)) (sym c.new-caller.ensures.pass) c.requires.forked.fresh in
     are_joined job c.new-caller.result old (back old new n size) (length_back old new n size) fresh c.new-caller.ensures.kept (each_back old new n size (HasRun job) made) c.requires.roles
 
 pub sweep-requires-clause-ready : goal.sweep-requires-clause-ready

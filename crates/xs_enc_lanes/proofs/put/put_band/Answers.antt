@@ -3,7 +3,7 @@ use Rattle.std.proofs.lemmas.Bool.{cases_lt}
 use Rattle.xs_layout.specs.Geometry.{components_of}
 use Rattle.xs_params.specs.Rows.{Rows}
 use Rattle.xs_geometry.specs.SliceLines.{end_line_of, first_line_of}
-use Rattle.xs_enc_lanes.specs.Rows.{IsSliceLine, row_in}
+use Rattle.xs_enc_lanes.specs.Rows.{IsSliceLine, row_of_component}
 use Rattle.xs_enc_lanes.specs.Placed.{CarriesIn, IsOfBand}
 use Rattle.xs_enc_lanes.proofs.Putting.{carries_row, line_there, put_more, put_none, put_weaker}
 use Rattle.xs_enc_lanes.proofs.put.put_band.Goals as goal
@@ -42,8 +42,8 @@ lines-preserved c =
     let below : line < end_line_of h slice band = omega (arith, c.lines-test.true, c.lines.auto.line-end, c.lines-first.ensures.first, c.lines-first.ensures.end, c.requires.lines.first band c.requires.band, c.requires.lines.lines band c.requires.band) in
     let is : IsSliceLine h slice band line = record { band_there = c.requires.band; from = from; below = below } in
     let number : c.components.result ≡ components_of h.shape.format = c.components.ensures.count in
-    let row_is : c.row-row.result.now ≡ row_in v (band / components_of h.shape.format) (line - first_line_of h slice band) =
-    c.row-row.ensures.row ∙ ap (λ n. row_in v (band / n) (line - c.lines-first.result.0)) number ∙ ap (λ n. row_in v (band / components_of h.shape.format) (line - n)) first in
+    let row_is : c.row-row.result.now ≡ row_of_component v (band / components_of h.shape.format) (line - first_line_of h slice band) =
+    c.row-row.ensures.row ∙ ap (λ n. row_of_component v (band / n) (line - c.lines-first.result.0)) number ∙ ap (λ n. row_of_component v (band / components_of h.shape.format) (line - n)) first in
     put_more h slice band line (CarriesIn h slice v) c.args.rows.now c.lines.rows c.put_row.new.rows c.row-row.result.now (λ (b l : ℕ). (b ≡ band) × (l < line)) (λ (b l : ℕ). (b ≡ band) × (l < line + 1)) c.lines.invariant
     (line_there h slice c.lines.rows band line c.lines.invariant.lines is) c.row-row.ensures.small c.put_row.ensures (λ (rows : Rows) carries. row_is ∙ carries_row h slice v rows band line carries is c.requires.of)
     (λ b l at d. elim (cases_lt l line) [ inl less ↦ inl (d.0, less) | inr past ↦ inr (d.0, (let more = d.1 in omega (arith, past, more))) ])

@@ -2,7 +2,7 @@ use Rattle.std.proofs.Common.{◌≡◌, ℕ, List, ◌+◌, ◌%◌, ◌<◌, s
 use Rattle.xs_params.specs.Geometry.{band_component, bands_of}
 use Rattle.xs_geometry.specs.SliceLines.{BandLines}
 use Rattle.xs_enc_lanes.specs.Rows.{component_in}
-use Rattle.xs_enc_lanes.specs.Placed.{ArePut, CarriesIn, IsOfValue}
+use Rattle.xs_enc_lanes.specs.Placed.{AreRowsPut, CarriesIn, IsOfValue}
 use Rattle.xs_enc_lanes.proofs.Putting.{band_past, band_put, put_none, put_weaker}
 use Rattle.xs_enc_lanes.proofs.put.put_value.Goals.{then-band-components, else-band-components}
 use Rattle.xs_enc_lanes.proofs.put.put_value.Goals as goal
@@ -25,8 +25,8 @@ bands-preserved c =
     let now = c.bands.rows in
     let band = c.bands.band in
     elim c.if-band-components.branch [
-      | then-band-components w ↦ subst (λ (r : List BandLines). ArePut h slice (CarriesIn h slice v) old r (λ (b l : ℕ). (band_component h b ≡ component_in v) × (b < band + 1))) (sym w.rows-is) (band_put h slice band v old now w.put_band.new.rows c.bands.invariant w.put_band.ensures)
-      | else-band-components w ↦ subst (λ (r : List BandLines). ArePut h slice (CarriesIn h slice v) old r (λ (b l : ℕ). (band_component h b ≡ component_in v) × (b < band + 1))) (sym w.rows-is)
+      | then-band-components w ↦ subst (λ (r : List BandLines). AreRowsPut h slice (CarriesIn h slice v) old r (λ (b l : ℕ). (band_component h b ≡ component_in v) × (b < band + 1))) (sym w.rows-is) (band_put h slice band v old now w.put_band.new.rows c.bands.invariant w.put_band.ensures)
+      | else-band-components w ↦ subst (λ (r : List BandLines). AreRowsPut h slice (CarriesIn h slice v) old r (λ (b l : ℕ). (band_component h b ≡ component_in v) × (b < band + 1))) (sym w.rows-is)
           (band_past h slice band v old now (λ e. w.if-band-components.false (ap (λ n. band % n) c.components-components.ensures.count ∙ e ∙ sym c.component-component.ensures)) c.bands.invariant)
     ]
 

@@ -1,7 +1,7 @@
 use Rattle.std.proofs.Common.{◌≡◌, ◌+◌, ◌-◌, ◌*◌, ◌/◌, ◌%◌, ◌^◌, ◌<◌, ◌≤◌, ℕ, [], length, get_or, sym, ap, ◌∙◌, arith}
 use Rattle.std.specs.Prelude.{pos, unsigned_abs}
 use Rattle.std.proofs.lemmas.List.{length-drop}
-use Rattle.xs_bits.specs.Reading.{Reading, left}
+use Rattle.xs_bits.specs.Reading.{BitReading, left}
 use Rattle.xs_spelling.specs.Sizes.{numbered}
 use Rattle.xs_spelling.specs.Reading.{group_start, value_in}
 use Rattle.xs_planes.specs.Numbers.{lane_at}
@@ -56,9 +56,9 @@ groups-preserved c =
                 ∙ four_more f c.args.into.now c.groups.into k (λ c. pos 0) room c.groups.invariant.values
                 (sym (none (4 * k) q0)) (sym (none (4 * k + 1) q1)) (sym (none (4 * k + 2) q2)) (sym (none (4 * k + 3) q3));
             fit = fit_more f t counts k c.groups.invariant.fit (λ j c q r small. nothing_fits f j (count - t) (none j q));
-            place = omega (arith, ap (λ (r : Reading). r.place) w.input-is, c.groups.invariant.place, start_more apart t counts k, size_none apart t count less);
+            place = omega (arith, ap (λ (r : BitReading). r.place) w.input-is, c.groups.invariant.place, start_more apart t counts k, size_none apart t count less);
             enough = omega (arith, c.groups.invariant.enough, start_more apart t counts k, size_none apart t count less);
-            same = ap (λ (r : Reading). r.bits) w.input-is ∙ c.groups.invariant.same;
+            same = ap (λ (r : BitReading). r.bits) w.input-is ∙ c.groups.invariant.same;
           }
       | else-count-t+in-Ok w ↦
           let more : t < count = omega (arith, same, w.if-count-t.false) in
@@ -74,9 +74,9 @@ groups-preserved c =
                 let size = ap unsigned_abs (number j c q r) in
                 let room = ap (λ n. 2 ^ n) left_planes in
                 omega (arith, size, room, w.in-Ok.ensures.small c small));
-            place = omega (arith, ap (λ (r : Reading). r.place) w.input-is, w.in-Ok.ensures.moved, c.groups.invariant.place, start_more apart t counts k, size_some apart t count more, same);
+            place = omega (arith, ap (λ (r : BitReading). r.place) w.input-is, w.in-Ok.ensures.moved, c.groups.invariant.place, start_more apart t counts k, size_some apart t count more, same);
             enough = omega (arith, w.in-Ok.ensures.enough, ap length here ∙ length-drop start all, c.groups.invariant.enough, start_more apart t counts k, size_some apart t count more, same);
-            same = ap (λ (r : Reading). r.bits) w.input-is ∙ w.read_group.ensures.same ∙ c.groups.invariant.same;
+            same = ap (λ (r : BitReading). r.bits) w.input-is ∙ w.read_group.ensures.same ∙ c.groups.invariant.same;
           }
     ]
 

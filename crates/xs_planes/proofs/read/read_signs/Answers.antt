@@ -1,7 +1,7 @@
 use Rattle.std.proofs.Common.{◌-◌, ◌*◌, ◌/◌, ◌^◌, ◌<◌, ◌≤◌, length, get_or, sym, ap, ◌∙◌, arith}
 use Rattle.std.specs.Prelude.{true, false, nat_eq, nat_lt, pos, unsigned_abs}
 use Rattle.std.proofs.Math.Pow.{pow_mono}
-use Rattle.xs_bits.specs.Reading.{Reading, left}
+use Rattle.xs_bits.specs.Reading.{BitReading, left}
 use Rattle.xs_spelling.specs.Sizes.{numbered}
 use Rattle.xs_spelling.specs.Reading.{bit_at, signed, sign_place, with_signs}
 use Rattle.xs_lists.proofs.Puts.{put_at, put_more, put_same, put_end}
@@ -50,18 +50,18 @@ columns-preserved c =
             values = w.into-is ∙ w.give_sign.ensures
                 ∙ put_more f old c.columns.into k (signed (nat_eq w.in-Ok.sign 1) (unsigned_abs (get_or c.columns.into k (pos 0)))) inside c.columns.invariant.values
                 (ap (λ z. signed (nat_eq w.in-Ok.sign 1) (unsigned_abs z)) at ∙ ap (λ b. signed (nat_eq b 1) (unsigned_abs (get_or old k (pos 0)))) (sym there.0));
-            place = omega (arith, ap (λ (r : Reading). r.place) w.input-is, w.in-Ok.ensures.moved, c.columns.invariant.place, more);
+            place = omega (arith, ap (λ (r : BitReading). r.place) w.input-is, w.in-Ok.ensures.moved, c.columns.invariant.place, more);
             enough = omega (arith, there.1, more);
-            same = ap (λ (r : Reading). r.bits) w.input-is ∙ w.get.ensures.same ∙ c.columns.invariant.same;
+            same = ap (λ (r : BitReading). r.bits) w.input-is ∙ w.get.ensures.same ∙ c.columns.invariant.same;
           }
       | else-has_sign w ↦
           let none = test ∙ w.if-has_sign.false in
           let more = place_more line k false none in
           record {
             values = w.into-is ∙ put_same f old c.columns.into k (pos 0) inside c.columns.invariant.values (no_sign (get_or old k (pos 0)) (nat_eq (bit_at all (sign_place line k)) 1) none);
-            place = omega (arith, ap (λ (r : Reading). r.place) w.input-is, c.columns.invariant.place, more);
+            place = omega (arith, ap (λ (r : BitReading). r.place) w.input-is, c.columns.invariant.place, more);
             enough = omega (arith, c.columns.invariant.enough, more);
-            same = ap (λ (r : Reading). r.bits) w.input-is ∙ c.columns.invariant.same;
+            same = ap (λ (r : BitReading). r.bits) w.input-is ∙ c.columns.invariant.same;
           }
     ]
 

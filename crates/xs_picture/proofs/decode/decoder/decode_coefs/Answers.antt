@@ -9,7 +9,7 @@ use Rattle.xs_signal.specs.Lines.{entries_of}
 use Rattle.xs_rate.specs.Coefficients.{Rows}
 use Rattle.xs_decoding.specs.Decoded.{decoded_sample}
 use Rattle.xs_stripe.specs.Source.{IsBandRow}
-use Rattle.xs_picture.specs.Coefs.{Coefs, row_in, rows_of_slices}
+use Rattle.xs_picture.specs.Coefs.{Coefs, row_of_slices, rows_of_slices}
 use Rattle.xs_picture.proofs.Coverage.{row_of_band}
 use Rattle.xs_picture.proofs.decode.decoder.decode_coefs.Goals as goal
 
@@ -33,8 +33,8 @@ step-requires-clause-near c band line inside less above below =
     let coefs = c.args.coefs.now in
     let same = c.lines.invariant.header in
     let row = row_of_band coefs band line c.requires.coefs (subst (λ (h : Header). band < bands_of h) same inside) (subst (λ (h : Header). line < band_height_of h band) same less) in
-    subst (λ (h : Header). IsBandRow (band_width_of h band) (row_in c.of-rows.result.header c.of-rows.result.slices band line)) (sym same)
-    (subst (λ (r : Coefs). IsBandRow (band_width_of coefs.header band) (row_in r.header r.slices band line)) (sym c.of-rows.ensures) row)
+    subst (λ (h : Header). IsBandRow (band_width_of h band) (row_of_slices c.of-rows.result.header c.of-rows.result.slices band line)) (sym same)
+    (subst (λ (r : Coefs). IsBandRow (band_width_of coefs.header band) (row_of_slices r.header r.slices band line)) (sym c.of-rows.ensures) row)
 
 pub lines-preserved : goal.lines-preserved
 lines-preserved c =
@@ -45,7 +45,7 @@ lines-preserved c =
     let new = c.put_line.new.samples in
     let old = c.lines.samples.items in
     let header : c.step.new.self.header.now ≡ coefs.header = ap (λ (b : Bor Header). b.now) c.step.ensures.header ∙ i.header in
-    let holds = c.step.ensures.holds rows i.holds (λ band row k inside. ap (λ (r : Coefs). entries_of (row_in r.header r.slices band row) k) c.of-rows.ensures) in
+    let holds = c.step.ensures.holds rows i.holds (λ band row k inside. ap (λ (r : Coefs). entries_of (row_of_slices r.header r.slices band row) k) c.of-rows.ensures) in
     let whole : length new ≡ length old = c.put_line.auto.samples ∙ ap length c.as_mut_slice.ensures.value in
     record {
       state = c.step.ensures.state;

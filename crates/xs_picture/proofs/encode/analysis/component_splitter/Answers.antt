@@ -3,7 +3,8 @@ use Rattle.xs_signal.specs.Stripe.{IsSplit}
 use Rattle.xs_splitter.specs.Chain.{IsChain}
 use Rattle.xs_wave.proofs.Cascade.{component_split as splits}
 use Rattle.xs_decoding.proofs.Within.{accepted_component}
-use Rattle.xs_picture.specs.Analysed.{component_split, numbers_of}
+use Rattle.xs_stripe.specs.Joined.{component_split}
+use Rattle.xs_picture.specs.Analysed.{numbers_of}
 use Rattle.xs_picture.proofs.encode.analysis.component_splitter.Goals as goal
 
 pub new-requires-clause-split : goal.new-requires-clause-split

@@ -2,7 +2,7 @@ use Rattle.std.proofs.Common.{◌≡◌, ◌+◌, ◌<◌, length, ap, ◌∙◌
 use Rattle.std.proofs.lemmas.List.{get_or_default, length-set}
 use Rattle.xs_layout.specs.Geometry.{groups_of}
 use Rattle.xs_params.specs.Geometry.{band_width_of, bands_of}
-use Rattle.xs_precinct_write.specs.Outgoing.{Outgoing, no_line}
+use Rattle.xs_precinct_write.specs.Outgoing.{Outgoing, no_outgoing}
 use Rattle.xs_precinct_write.specs.Sent.{modes_in}
 use Rattle.xs_precinct_write.proofs.Alikes.{set_each}
 use Rattle.xs_precinct_write.proofs.write.modes.set_modes.Goals as goal
@@ -17,7 +17,7 @@ bands-preserved c =
     let all = c.bands-band-end.ensures.count ∙ ap bands_of c.requires.precinct.is_slice.geometry in
     let there : k < bands_of h = omega (arith, c.bands-test.true, all) in
     let inside : k < length lines = omega (arith, there, c.bands.invariant.room.count) in
-    let same = ap (λ (x : Outgoing). length x.counts) (get_or_default lines k c.index-lines-band.result no_line inside) in
+    let same = ap (λ (x : Outgoing). length x.counts) (get_or_default lines k c.index-lines-band.result no_outgoing inside) in
     record {
       room = record {
         count = length-set lines k new ∙ c.bands.invariant.room.count;

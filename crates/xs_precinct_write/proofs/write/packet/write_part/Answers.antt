@@ -4,7 +4,7 @@ use Rattle.std.specs.List.{range_with_len}
 use Rattle.xs_lists.proofs.Bitwise.{join-are}
 use Rattle.xs_lists.proofs.Packing.{length-packed}
 use Rattle.xs_lists.proofs.Ranges.{bits_first}
-use Rattle.xs_precinct_write.specs.Outgoing.{Outgoing, no_line}
+use Rattle.xs_precinct_write.specs.Outgoing.{Outgoing, no_outgoing}
 use Rattle.xs_precinct_write.specs.Parts.{band_part, bits_in_part, part_bits}
 use Rattle.xs_precinct_write.proofs.Joined.{aligned_room, none_left, part_bits as part_put, size_first, whole_put}
 use Rattle.xs_precinct_write.proofs.Sized.{part_are}
@@ -14,7 +14,7 @@ pub write_part-requires-clause-room : goal.write_part-requires-clause-room
 write_part-requires-clause-room c =
     let p = c.args.packet.now in
     let here : c.bands.band < length p.lines.now = omega (arith, c.bands-test.true, c.requires.lines.there) in
-    let same = ap (λ (o : Outgoing). length (bits_in_part c.args.part p.apart o)) (get_or_default p.lines.now c.bands.band c.index-packet-band.result no_line here) in
+    let same = ap (λ (o : Outgoing). length (bits_in_part c.args.part p.apart o)) (get_or_default p.lines.now c.bands.band c.index-packet-band.result no_outgoing here) in
     let more = size_first (band_part p c.args.part) c.bands.band p.end c.bands-test.true in
     omega (arith, same, more, c.bands.invariant.spare, c.requires.room, length-packed (part_bits p c.args.part))
 
@@ -22,7 +22,7 @@ pub bands-preserved : goal.bands-preserved
 bands-preserved c =
     let p = c.args.packet.now in
     let here : c.bands.band < length p.lines.now = omega (arith, c.bands-test.true, c.requires.lines.there) in
-    let same = ap (bits_in_part c.args.part p.apart) (get_or_default p.lines.now c.bands.band c.index-packet-band.result no_line here) in
+    let same = ap (bits_in_part c.args.part p.apart) (get_or_default p.lines.now c.bands.band c.index-packet-band.result no_outgoing here) in
     let more = size_first (band_part p c.args.part) c.bands.band p.end c.bands-test.true in
     record {
       whole = bits_first (band_part p c.args.part) c.bands.band p.end c.bands.out.bits c.write_part.new.out.bits (c.args.out.now.bits ++ part_bits p c.args.part) c.bands-test.true c.bands.invariant.whole

@@ -6,7 +6,7 @@ use Rattle.xs_lists.specs.Bits.{bits_of}
 use Rattle.xs_lists.specs.Spelling.{upto}
 use Rattle.xs_lists.proofs.Ranges.{bits_first}
 use Rattle.xs_grammar.specs.Coded.{field_bytes}
-use Rattle.xs_precinct_write.specs.Outgoing.{Outgoing, no_line}
+use Rattle.xs_precinct_write.specs.Outgoing.{Outgoing, no_outgoing}
 use Rattle.xs_precinct_write.proofs.Heads.{precinct_head}
 use Rattle.xs_precinct_write.proofs.Joined.{none_left, whole_put}
 use Rattle.xs_precinct_write.proofs.Precincts.{head_finished}
@@ -15,9 +15,9 @@ use Rattle.xs_precinct_write.proofs.write.precinct.with_head.Goals as goal
 pub modes-preserved : goal.modes-preserved
 modes-preserved c =
     let lines = c.args.lines.now in
-    let f : ℕ → List ℕ = λ band. bits_of 2 (slice_index_or lines band no_line).mode in
+    let f : ℕ → List ℕ = λ band. bits_of 2 (slice_index_or lines band no_outgoing).mode in
     let inside : c.modes.band < length lines = c.modes-test.true in
-    let value = c.from-in-modes.ensures ∙ c.mode.ensures.mode ∙ ap (λ (x : Outgoing). x.mode) (c.index-lines-band.is ∙ get_or_default lines c.modes.band c.index-lines-band.result no_line inside) in
+    let value = c.from-in-modes.ensures ∙ c.mode.ensures.mode ∙ ap (λ (x : Outgoing). x.mode) (c.index-lines-band.is ∙ get_or_default lines c.modes.band c.index-lines-band.result no_outgoing inside) in
     record {
       whole = bits_first f c.modes.band (length lines) c.modes.out.bits c.put-in-modes.new.self.bits (c.put-3.new.self.bits ++ flat_map f (range_with_len 0 (length lines - 0))) inside c.modes.invariant.whole
           (c.put-in-modes.ensures.bits ∙ ap (λ v. c.modes.out.bits ++ bits_of 2 v) value);
@@ -27,7 +27,7 @@ modes-preserved c =
 pub returns : goal.returns
 returns c =
     let lines = c.args.lines.now in
-    let mode : ℕ → ℕ = λ band. (slice_index_or lines band no_line).mode in
+    let mode : ℕ → ℕ = λ band. (slice_index_or lines band no_outgoing).mode in
     let f : ℕ → List ℕ = λ band. bits_of 2 (mode band) in
     let empty = c.in_ok-reserve.ensures.same ∙ c.new-out.ensures.empty in
     let size : length lines - 0 ≡ length lines = omega arith in

@@ -1,6 +1,6 @@
 use Rattle.std.proofs.Common.{◌≡◌, ◌+◌, ◌≤◌, ◌++◌, ◌∷◌, [], length, ap, sym, subst, ◌∙◌, arith}
 use Rattle.std.proofs.lemmas.List.{length-append}
-use Rattle.xs_stripe.specs.Block.{rows_in, StandIn}
+use Rattle.xs_stripe.specs.Block.{rows_at_places, StandIn}
 use Rattle.xs_stripe.specs.declared.place.RowPlace.{RowPlace}
 use Rattle.xs_stripe.proofs.Places.{stand_more, stand_push, rows_added}
 use Rattle.xs_stripe.proofs.sample_list.SampleList.push.Goals as goal
@@ -31,5 +31,5 @@ returns c =
     let count : length c.add_samples.new.samples.items ≡ length xs + length row = ap length c.in_ok-add_samples.ensures.added ∙ length-append xs row in
     let start : p.start ≡ length xs = omega (arith, c.len-start.ensures, c.self.inside.samples.ok.0) in
     let end : p.end ≡ length xs + length row = omega (arith, c.len-end.ensures, c.add_samples.new.samples.ok.0, count) in
-    ap (λ l. rows_in l c.add_samples.new.samples.items) c.in_ok-add_place.ensures.added ∙ ap (rows_in (ps ++ p ∷ [])) c.in_ok-add_samples.ensures.added ∙ rows_added ps p xs row start end c.self.invariant
+    ap (λ l. rows_at_places l c.add_samples.new.samples.items) c.in_ok-add_place.ensures.added ∙ ap (rows_at_places (ps ++ p ∷ [])) c.in_ok-add_samples.ensures.added ∙ rows_added ps p xs row start end c.self.invariant
     ∙ ap (λ l. l ++ row ∷ []) c.self.view_is

@@ -3,7 +3,7 @@ use Rattle.std.proofs.lemmas.Bool.{cases_eq}
 use Rattle.std.proofs.lemmas.List.{get_or_append_left, get_or_push}
 use Rattle.xs_layout.specs.Geometry.{groups_of}
 use Rattle.xs_params.specs.Geometry.{band_width_of}
-use Rattle.xs_precinct_write.specs.Outgoing.{Outgoing, no_line}
+use Rattle.xs_precinct_write.specs.Outgoing.{Outgoing, no_outgoing}
 use Rattle.xs_precinct_write.proofs.write.precinct.Scratch.of.Goals as goal
 
 pub bands-preserved : goal.bands-preserved
@@ -19,10 +19,10 @@ bands-preserved c =
       count = omega (arith, ap length pushed, length-append old (line ∷ []), c.bands.invariant.count);
       groups = λ band less. elim (cases_eq band k) [
         | inl same ↦
-            ap (λ l. length (get_or l band no_line).counts) pushed ∙ ap (λ (x : Outgoing). length x.counts) (get_or_push old line no_line band (c.bands.invariant.count ∙ sym same)) ∙ own ∙ ap (λ b. groups_of (band_width_of g b)) (sym same)
+            ap (λ l. length (get_or l band no_outgoing).counts) pushed ∙ ap (λ (x : Outgoing). length x.counts) (get_or_push old line no_outgoing band (c.bands.invariant.count ∙ sym same)) ∙ own ∙ ap (λ b. groups_of (band_width_of g b)) (sym same)
         | inr other ↦
-            ap (λ l. length (get_or l band no_line).counts) pushed
-            ∙ ap (λ (x : Outgoing). length x.counts) (get_or_append_left old (line ∷ []) no_line band (omega (arith, less, other, c.bands.invariant.count)))
+            ap (λ l. length (get_or l band no_outgoing).counts) pushed
+            ∙ ap (λ (x : Outgoing). length x.counts) (get_or_append_left old (line ∷ []) no_outgoing band (omega (arith, less, other, c.bands.invariant.count)))
             ∙ c.bands.invariant.groups band (omega (arith, less, other))
       ];
     }

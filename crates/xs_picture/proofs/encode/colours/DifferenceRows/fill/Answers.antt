@@ -1,7 +1,7 @@
 use Rattle.std.proofs.Common.{◌≡◌, length, ap, sym, subst, ◌∙◌, arith}
 use Rattle.xs_picture.specs.Analysed.{IsLine}
 use Rattle.xs_picture.proofs.Analysed.{colour_line, lent_row}
-use Rattle.xs_picture.proofs.encode.colours.ColourRows.fill.Goals as goal
+use Rattle.xs_picture.proofs.encode.colours.DifferenceRows.fill.Goals as goal
 
 pub returns-clause-luma : goal.returns-clause-luma
 returns-clause-luma c =
