@@ -39,6 +39,7 @@ fn add_raised(into: &mut Vec<u64>, powers: &[u64], by: u64) -> Result<(), Memory
 }
 
 impl Share {
+    /// The whole share.
     pub fn whole(alloc: Global) -> Result<Share, Memory>
         ensures { IfOk result (λ s. s ≡ portion 1 0) }
     {
@@ -47,6 +48,7 @@ impl Share {
         Ok(Share { powers, halved: 0 })
     }
 
+    /// No share.
     pub fn none(alloc: Global) -> Share
         ensures { result ≡ portion 0 0 }
     {
