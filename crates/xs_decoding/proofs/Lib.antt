@@ -1,2 +1,4 @@
 pub mod Numbers
 pub mod Within
+pub mod Written
+pub mod OneContent

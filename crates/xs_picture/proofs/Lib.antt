@@ -5,7 +5,6 @@ pub mod Folded
 pub mod Coverage
 pub mod Local
 pub mod Encoded
-pub mod Placed
 pub mod SlicesRead
 pub mod StreamsRead
 pub mod Results

@@ -29,7 +29,7 @@ use Rattle.xs_markers.specs.Units.{header_unit_at, header_unit_fault}
 use Rattle.xs_markers.proofs.UnitsKnown.{header_units_known}
 use Rattle.xs_decoding.specs.Decoded.{IsDecodingOf}
 use Rattle.xs_decoding.proofs.Within.{decoded_within}
-use Rattle.xs_picture.proofs.OnePicture.{within_one}
+use Rattle.xs_decoding.proofs.OneContent.{within_one}
 use Rattle.xs_capture.specs.Offer.{Offer}
 use Rattle.xs_capture.specs.Selection.{AreMissing, HasBytes, Held, IsSelection, IsWholeUnit, bytes_at}
 use Rattle.xs_capture.proofs.Firsts.{here}

@@ -1,7 +1,7 @@
 use Rattle.std.proofs.Common.{◌≡◌, ◌-◌, ap, ◌∙◌, arith}
 use Rattle.xs_params.specs.Picture.{Picture, sample_at}
 use Rattle.xs_decoding.specs.Decoded.{decoded_sample}
-use Rattle.xs_picture.proofs.Placed.{row_written, row_kept}
+use Rattle.xs_decoding.proofs.Written.{row_written, row_kept}
 use Rattle.xs_picture.proofs.decode.decoder.put_row.Goals as goal
 
 pub returns-clause-written : goal.returns-clause-written

@@ -1,21 +1,10 @@
 -- A row of samples is written into a picture.
-use Rattle.std.proofs.Common.{◌≡◌, ◌≢◌, ◌⊎◌, ℕ, ◌+◌, ◌-◌, ◌^◌, ◌<◌, ◌≤◌, List, ◌++◌, length, get_or, take, drop, ℤ, pos, negsuc, ◌+ℤ◌, sym, ap, ◌∙◌, arith, inl, inr, length-append}
-use Rattle.std.specs.Int.{int_shr}
+use Rattle.std.proofs.Common.{◌≡◌, ◌≢◌, ◌⊎◌, ℕ, ◌+◌, ◌-◌, ◌<◌, ◌≤◌, List, ◌++◌, length, get_or, take, drop, sym, ap, ◌∙◌, arith, inl, inr, length-append}
 use Rattle.std.proofs.Math.ListN.{get_or-append}
 use Rattle.std.proofs.lemmas.Bool.{cases_eq, cases_lt}
 use Rattle.std.proofs.lemmas.List.{get_or-append_right, get_or-take, get_or-drop, length-take}
-use Rattle.std.proofs.lemmas.Nat.{pow_pos}
 use Rattle.xs_params.specs.Picture.{Picture, IsPicture, IsPlace, IsRow, row_first, sample_at, width_of, with_samples}
 use Rattle.xs_params.proofs.Areas.{rows_apart, row_end}
-use Rattle.xs_signal.specs.Samples.{clamped, scale_out}
-
--- no sample has more bits than the depth
-clamped_most : (most : ℕ) (z : ℤ) → clamped most z ≤ most
-clamped_most most (pos n) = omega arith
-clamped_most most (negsuc n) = omega arith
-
-pub scaled_small : (depth bw : ℕ) (z : ℤ) (sample : ℕ) → sample ≡ scale_out depth bw z → sample < 2 ^ depth
-scaled_small depth bw z sample is = omega (arith, is, pow_pos depth, clamped_most (2 ^ depth - 1) (int_shr (z +ℤ pos (2 ^ (bw - 1)) +ℤ pos (2 ^ (bw - depth - 1))) (bw - depth)))
 
 -- a list with a part in its place
 part_at : (xs part : List ℕ) (first k : ℕ) → first ≤ length xs → k < length part → get_or (take first xs ++ part ++ drop (first + length part) xs) (first + k) 0 ≡ get_or part k 0
