@@ -2,7 +2,9 @@
 ghost use Rattle.std.specs.Prelude.{◌≡◌, ◌<◌, ◌≤◌, IfOk};
 ghost use Rattle.xs_params.specs.Accepted.{IsAccepted};
 ghost use Rattle.xs_params.specs.Geometry.{slice_count};
-ghost use Rattle.xs_lanes.specs.Knowing.{SameShare};
+ghost use Rattle.xs_lane_core.specs.Sound.{IsAlone};
+ghost use Rattle.xs_lanes.specs.Knowing.{IsChoice, SameShare};
+ghost use Rattle.xs_handover.specs.Blocks.{blocks};
 ghost use Rattle.xs_handover.specs.Passes.{IsHandPass, stripe_count, actor};
 ghost use Rattle.xs_handover.specs.Answers.{ClaimAnswers, GetsMore, HandsNothing, StripeAnswers};
 
@@ -67,6 +69,7 @@ impl Handover {
         ensures hands { HandsNothing (actor pass.old) (actor pass.new) }
         ensures grows { GetsMore (actor pass.old) (actor pass.new) }
         ensures answer { IfOk result (λ r. StripeAnswers (actor pass.old) header.now slice r (actor pass.new)) }
+        ensures choice { IsAlone (actor pass.old) → IsChoice blocks (actor pass.old) }
     {
         let seen = self.lanes.look(&mut pass.pass, slice);
         if seen != EVERY_WORD {
