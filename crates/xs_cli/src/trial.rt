@@ -177,8 +177,13 @@ fn picture_of(reception: Reception) -> Planes
     requires { (picture : Picture) × (reception.received ≡ Received.Picture picture) }
     ensures { reception.received ≡ Received.Picture result }
 {
-    let Reception { received, board } = reception;
+    let Reception {
+        received,
+        board,
+        stripes,
+    } = reception;
     drop(board);
+    drop(stripes);
     match received {
         Received::Picture(planes) => planes,
         Received::Missing { .. } | Received::Damaged(_) => unreachable!(),

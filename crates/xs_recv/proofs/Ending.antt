@@ -1,5 +1,5 @@
 -- What is kept at the end.
-use Rattle.std.proofs.Common.{◌≡◌, inl, inr, ℕ, ◌+◌, ◌^◌, ◌<◌, Bool, true, false, true≢false, Option, Some, None, List, All, sym, ap, ◌∙◌, subst, arith}
+use Rattle.std.proofs.Common.{◌≡◌, inl, inr, ℕ, ◌+◌, ◌^◌, ◌<◌, ◌≤◌, true, false, true≢false, Option, Some, None, List, All, sym, ap, ◌∙◌, subst, arith}
 use Rattle.std.specs.Prelude.{IfSome}
 use Rattle.std.proofs.lemmas.Bool.{cases_lt}
 use Rattle.std.proofs.lemmas.List.Elements.{All-contains, All-weaker}
@@ -8,7 +8,7 @@ use Rattle.xs_lane_core.specs.Machine.{Actor}
 use Rattle.xs_lanes.specs.Claiming.{got_in}
 use Rattle.xs_lanes.specs.Settled.{IsDone}
 use Rattle.xs_capture.specs.Offer.{Offer}
-use Rattle.xs_capture.specs.Selection.{HasBytes, IsSelection, IsWholeUnit}
+use Rattle.xs_capture.specs.Selection.{HasBytes, Held, IsSelection, IsWholeUnit}
 use Rattle.xs_stored.specs.Stored.{packets, held_in, AreIn, IsCopy}
 use Rattle.xs_stored.proofs.Copies.{copies_have_bytes}
 use Rattle.xs_stored.proofs.Selected.{stored_is_selection}
@@ -20,9 +20,13 @@ use Rattle.xs_board.specs.Passes.{IsBoardPass, actor, unit_count}
 use Rattle.xs_board.specs.Answers.{FilesNothing}
 use Rattle.xs_board.specs.declared.reading.Reading.TheVariants.{Good}
 use Rattle.xs_recv.specs.declared.activity.SliceCopy.{SliceCopy}
-use Rattle.xs_recv.specs.declared.activity.SliceReading.{SliceReading}
+use Rattle.xs_handover.specs.declared.handover.Handover.{Handover}
+use Rattle.xs_handover.specs.Blocks.{Carried}
+use Rattle.xs_handover.specs.Passes.{IsHandPass, actor as hand_actor, stripe_count}
+use Rattle.xs_recv.specs.declared.activity.MadeStripe.{MadeStripe}
 use Rattle.xs_recv.specs.declared.activity.Kept.{Kept}
-use Rattle.xs_recv.specs.Activities.{Doing, HasCopy, IsKept, IsReadBy, IsReadByKnown, Keeps}
+use Rattle.xs_recv.specs.Activities.{Doing, HasCopy, IsBlockKept, IsKept, IsMadeByKnown, IsReadBy, IsReadByKnown, Keeps, KeepsRows, KnowsHeader}
+use Rattle.xs_recv.specs.Handed.{IsBlockIn, IsMadeBy}
 use Rattle.xs_recv.specs.Sweeping.{AreReadAlike, AreReadBy, GetsAll, GotIfWhole, IsGoodHead, IsHeadOf, IsKeptOf, IsSettled}
 use Rattle.xs_recv.specs.Filing.{HasFiled}
 use Rattle.xs_recv.proofs.Feeding.{filed_after}
@@ -37,10 +41,10 @@ whole_got v units unit done low all whole = elim (cases_lt unit units) [
   | inr past ↦ absurd (nothing_is_past.unit v.stored units unit low (omega (arith, past)) whole)
 ]
 
-unit_kept : (v : Actor Offer) (unit : ℕ) (known head : Option HeadRead) (kept : List SliceCopy) (s : Bool) → s ≡ false → Keeps v.got known head kept s → 0 < got_in packets unit v → IsKept head kept unit
-unit_kept v unit known head kept s sated k some =
+unit_kept : (v : Actor Offer) (unit : ℕ) (head : Option HeadRead) (kept : List SliceCopy) → Keeps v.got head kept → 0 < got_in packets unit v → IsKept head kept unit
+unit_kept v unit head kept k some =
     let p = got_of v unit some in
-    subst (IsKept head kept) p.2 (All-contains (λ (q : Offer). IsKept head kept q.unit) v.got p.0 (k.each sated) p.1)
+    subst (IsKept head kept) p.2 (All-contains (λ (q : Offer). IsKept head kept q.unit) v.got p.0 k.each p.1)
 
 none_kept : (kept : List SliceCopy) → IsKept None kept 0 → ⊥
 none_kept kept (inl (first, some)) = true≢false (sym some)
@@ -50,32 +54,68 @@ slice_kept : (head : Option HeadRead) (kept : List SliceCopy) (slice : ℕ) → 
 slice_kept head kept slice (inl (first, some)) = absurd (omega (arith, first))
 slice_kept head kept slice (inr (other, e, (c, has, same))) = (c, has, same ∙ (let n : other ≡ slice = omega (arith, e) in n))
 
-head_ended : (v : Actor Offer) (units : ℕ) (known head : Option HeadRead) (kept : List SliceCopy) (s : Bool) → s ≡ false → IsDone packets v → AreIn units v.stored → ((k : ℕ) → k < units → GotIfWhole v k) → Keeps v.got known head kept s → IsHeadOf (held_in v.stored) head
-head_ended v units known None kept s sated done low all k = λ whole. none_kept kept (unit_kept v 0 known None kept s sated k (whole_got v units 0 done low all whole))
-head_ended v units known (Some r) kept s sated done low all k = copies_have_bytes v 0 r.bytes done k.header
+head_ended : (v : Actor Offer) (units : ℕ) (head : Option HeadRead) (kept : List SliceCopy) → IsDone packets v → AreIn units v.stored → ((k : ℕ) → k < units → GotIfWhole v k) → Keeps v.got head kept → IsHeadOf (held_in v.stored) head
+head_ended v units None kept done low all k = λ whole. none_kept kept (unit_kept v 0 None kept k (whole_got v units 0 done low all whole))
+head_ended v units (Some r) kept done low all k = copies_have_bytes v 0 r.bytes done k.header
 
-read_by : (known : Option HeadRead) (s : HeadRead) (h : Header) (slice : ℕ) (bytes : List ℕ) (reading : SliceReading) → AreReadAlike known (Some s) → IsGoodHead s h → IsReadByKnown known slice bytes reading → IsReadBy h slice bytes reading
-read_by known s h slice bytes reading alike good (inl e) = subst (IsReadBy h slice bytes) (sym e) tt
-read_by None s h slice bytes reading alike good (inr (other, (r, e, n, is), read)) = absurd (cc e)
-read_by (Some x) s h slice bytes reading alike (m, good) (inr (other, (r, e, n, is), read)) =
+-- What is trusted
+
+same_header : (known : Option HeadRead) (s : HeadRead) (h other : Header) → AreReadAlike known (Some s) → IsGoodHead s h → KnowsHeader known other → other ≡ h
+same_header None s h other alike good (r, e, n, is) = absurd (cc e)
+same_header (Some x) s h other alike (m, good) (r, e, n, is) =
     let same : x ≡ r = cc e in
     let both : Good other n ≡ Good h m = sym is ∙ (ap (λ (z : HeadRead). z.reading) (sym same) ∙ (alike ∙ good)) in
     let one : other ≡ h = cc both in
-    subst (λ (z : Header). IsReadBy z slice bytes reading) one read
+    one
 
-trusted_by : (known head : Option HeadRead) (kept : List SliceCopy) → AreReadAlike known head → All (λ (c : SliceCopy). IsReadByKnown known c.slice c.bytes c.reading) kept → IfSome head (λ (r : HeadRead). AreReadBy r kept)
-trusted_by known None kept alike all = tt
-trusted_by known (Some s) kept alike all = λ h good.
-    All-weaker (λ (c : SliceCopy). IsReadByKnown known c.slice c.bytes c.reading) (λ (c : SliceCopy). IsReadBy h c.slice c.bytes c.reading) (λ c. read_by known s h c.slice c.bytes c.reading alike good) kept all
+read_by : (known : Option HeadRead) (s : HeadRead) (h : Header) (w : Actor Carried) (c : SliceCopy) → AreReadAlike known (Some s) → IsGoodHead s h → IsReadByKnown known w c → IsReadBy h w c.slice c.bytes c.reading
+read_by known s h w c alike good (inl e) = subst (IsReadBy h w c.slice c.bytes) (sym e) tt
+read_by known s h w c alike good (inr (other, knows, read)) = subst (λ (z : Header). IsReadBy z w c.slice c.bytes c.reading) (same_header known s h other alike good knows) read
 
-pub ended : (v : Actor Offer) (units : ℕ) (known : Option HeadRead) (k : Kept) (s : Bool) → s ≡ false → IsDone packets v → AreIn units v.stored → ((unit : ℕ) → unit < units → GotIfWhole v unit) → Keeps v.got known k.head k.copies.items s
-    → (k.trusted ≡ true → AreReadAlike known k.head) → IsKeptOf (held_in v.stored) k
-ended v units known k s sated done low all keeps alike = record {
-  head = head_ended v units known k.head k.copies.items s sated done low all keeps;
-  copies = All-weaker (λ (c : SliceCopy). IsCopy v.got (c.slice + 1) c.bytes) (λ (c : SliceCopy). HasBytes (held_in v.stored) (c.slice + 1) c.bytes) (λ c. copies_have_bytes v (c.slice + 1) c.bytes done) k.copies.items keeps.copies;
-  each = λ some slice whole. slice_kept k.head k.copies.items slice (unit_kept v (slice + 1) known k.head k.copies.items s sated keeps (whole_got v units (slice + 1) done low all whole));
-  trusted = λ t. trusted_by known k.head k.copies.items (alike t) keeps.readings;
+made_by : (known : Option HeadRead) (s : HeadRead) (h : Header) (w : Actor Carried) (m : MadeStripe) → AreReadAlike known (Some s) → IsGoodHead s h → IsMadeByKnown known w m → IsMadeBy h w m.slice m.stripe
+made_by known s h w m alike good (other, knows, made) = subst (λ (z : Header). IsMadeBy z w m.slice m.stripe) (same_header known s h other alike good knows) made
+
+block_in : (known : Option HeadRead) (s : HeadRead) (h : Header) (held : Held) (kept : List SliceCopy) (x : Carried) → AreReadAlike known (Some s) → IsGoodHead s h → All (λ (c : SliceCopy). HasBytes held (c.slice + 1) c.bytes) kept → IsBlockKept known kept x → IsBlockIn held h x
+block_in known s h held kept None alike good copies b = b
+block_in known s h held kept (Some b) alike good copies (other, knows, c, has, from) = (
+  from.header ∙ same_header known s h other alike good knows,
+  subst (HasBytes held (b.slice + 1)) (sym from.bytes_are)
+      (subst (λ k. HasBytes held (k + 1) c.bytes) (sym from.slice_is) (All-contains (λ (q : SliceCopy). HasBytes held (q.slice + 1) q.bytes) kept c copies has)),
+)
+
+trusted_by : (known head : Option HeadRead) (held : Held) (k : Kept) → All (λ (c : SliceCopy). HasBytes held (c.slice + 1) c.bytes) k.copies.items → KeepsRows known k.copies.items (hand_actor k.stripes.hand) k.stripes.made.items → AreReadAlike known head
+    → IfSome head (λ (r : HeadRead). (h : Header) → IsGoodHead r h → AreReadBy held h k)
+trusted_by known None held k copies rows alike = tt
+trusted_by known (Some s) held k copies rows alike = λ h good. let w = hand_actor k.stripes.hand in record {
+  copies = All-weaker (IsReadByKnown known w) (λ (c : SliceCopy). IsReadBy h w c.slice c.bytes c.reading) (λ c. read_by known s h w c alike good) k.copies.items rows.readings;
+  stripes = record {
+    blocks = All-weaker (IsBlockKept known k.copies.items) (IsBlockIn held h) (λ x. block_in known s h held k.copies.items x alike good copies) w.stored rows.blocks;
+    made = All-weaker (IsMadeByKnown known w) (λ (m : MadeStripe). IsMadeBy h w m.slice m.stripe) (λ m. made_by known s h w m alike good) k.stripes.made.items rows.made;
+    each = rows.each;
+  };
 }
+
+-- each slice that is whole has a stripe
+room_for : (v : Actor Offer) (units stripes slice : ℕ) → AreIn units v.stored → units ≤ stripes + 1 → IsWholeUnit (held_in v.stored) (slice + 1) → slice < stripes
+room_for v units stripes slice low room whole = elim (cases_lt (slice + 1) units) [
+  | inl below ↦ omega (arith, below, room)
+  | inr past ↦ absurd (nothing_is_past.unit v.stored units (slice + 1) low (omega (arith, past)) whole)
+]
+
+pub ended : (v : Actor Offer) (units : ℕ) (known : Option HeadRead) (handover : Handover) (k : Kept) → IsDone packets v → AreIn units v.stored → ((unit : ℕ) → unit < units → GotIfWhole v unit) → units ≤ stripe_count handover + 1 → IsHandPass handover k.stripes.hand
+    → IsAlone (hand_actor k.stripes.hand) → Keeps v.got k.head k.copies.items → KeepsRows known k.copies.items (hand_actor k.stripes.hand) k.stripes.made.items → (k.trusted ≡ true → AreReadAlike known k.head) → IsKeptOf (held_in v.stored) handover k
+ended v units known handover k done low all room pass alone keeps rows alike = record {
+  head = head_ended v units k.head k.copies.items done low all keeps;
+  copies = copies;
+  each = λ some slice whole. slice_kept k.head k.copies.items slice (unit_kept v (slice + 1) k.head k.copies.items keeps (whole_got v units (slice + 1) done low all whole));
+  pass = pass;
+  alone = alone;
+  room = λ slice whole. room_for v units (stripe_count handover) slice low room whole;
+  trusted = λ t. trusted_by known k.head (held_in v.stored) k copies rows (alike t);
+}
+  where
+    copies : All (λ (c : SliceCopy). HasBytes (held_in v.stored) (c.slice + 1) c.bytes) k.copies.items
+    copies = All-weaker (λ (c : SliceCopy). IsCopy v.got (c.slice + 1) c.bytes) (λ (c : SliceCopy). HasBytes (held_in v.stored) (c.slice + 1) c.bytes) (λ c. copies_have_bytes v (c.slice + 1) c.bytes done) k.copies.items keeps.copies
 
 pub settled : (offers : List Offer) (units : ℕ) (v : Actor Offer) → offered_bytes offers < 2 ^ 32 → IsDone packets v → AreIn units v.stored → HasFiled offers v → ((unit : ℕ) → unit < units → GotIfWhole v unit) → IsSettled offers v
 settled offers units v small done low filed all = record {

@@ -1,5 +1,5 @@
 -- The copies of slices, each at its place.
-use Rattle.std.proofs.Common.{◌≡◌, ◌⊎◌, inl, inr, ℕ, ◌+◌, ◌<◌, ◌≤◌, Bool, true, true≢false, Option, Some, None, List, [], ◌∷◌, ◌++◌, All, length, get_or, set, refl, sym, ap, ◌∙◌, subst, arith}
+use Rattle.std.proofs.Common.{◌≡◌, ◌⊎◌, inl, inr, ℕ, ◌+◌, ◌<◌, ◌≤◌, Bool, true, Option, Some, None, List, [], ◌∷◌, ◌++◌, All, length, get_or, set, refl, sym, ap, ◌∙◌, subst, arith}
 use Rattle.std.specs.Prelude.{IsSome, IfSome}
 use Rattle.std.specs.List.{Contains}
 use Rattle.std.proofs.lemmas.Bool.{cases_eq, cases_lt}
@@ -7,13 +7,12 @@ use Rattle.std.proofs.lemmas.List.{get_or-set_same, get_or-set_other, length-set
 use Rattle.std.proofs.lemmas.List.Elements.{All-contains, Contains-append_left, Contains-push, Contains-push_cases}
 use Rattle.xs_params.specs.declared.header.Header.{Header}
 use Rattle.xs_params.specs.Geometry.{slice_count}
-use Rattle.xs_capture.specs.Selection.{AreMissing, HasBytes, Held, IsBounded}
-use Rattle.xs_board.specs.declared.head.HeadRead.{HeadRead}
+use Rattle.xs_lane_core.specs.Machine.{Actor}
+use Rattle.xs_capture.specs.Selection.{HasBytes, Held}
+use Rattle.xs_handover.specs.Blocks.{Carried}
 use Rattle.xs_recv.specs.declared.activity.SliceCopy.{SliceCopy}
-use Rattle.xs_recv.specs.declared.activity.Kept.{Kept}
 use Rattle.xs_recv.specs.Activities.{HasCopy, IsReadBy}
-use Rattle.xs_recv.specs.Sweeping.{AreInOrder, AreReadBy, AreReadable, IsGoodHead, IsKeptOf}
-use Rattle.xs_recv.proofs.Wholes.{all_whole}
+use Rattle.xs_recv.specs.Reading.{AreInOrder, AreReadable}
 
 abbrev IsCopyAt : List SliceCopy → ℕ → Option SliceCopy → Type 0
 IsCopyAt copies slice place = IfSome place (λ (c : SliceCopy). Contains copies c × (c.slice ≡ slice))
@@ -76,37 +75,33 @@ module _ (copies : List SliceCopy) (count : ℕ) (places : List (Option SliceCop
 
 -- Each slice of the header has its copy
 
-abbrev pub IsReadableAt : Held → Header → Bool → ℕ → Option SliceCopy → Type 0
-IsReadableAt held h trusted slice place = IfSome place (λ (c : SliceCopy). (c.slice ≡ slice) × HasBytes held (slice + 1) c.bytes × (trusted ≡ true → IsReadBy h c.slice c.bytes c.reading))
+abbrev pub IsReadableAt : Held → Header → Actor Carried → Bool → ℕ → Option SliceCopy → Type 0
+IsReadableAt held h v trusted slice place = IfSome place (λ (c : SliceCopy). (c.slice ≡ slice) × HasBytes held (slice + 1) c.bytes × (trusted ≡ true → IsReadBy h v c.slice c.bytes c.reading))
 
-readable_at : (held : Held) (h : Header) (trusted : Bool) (copies : List SliceCopy) (slice : ℕ) (o : Option SliceCopy) → All (λ (c : SliceCopy). HasBytes held (c.slice + 1) c.bytes) copies
-    → (trusted ≡ true → All (λ (c : SliceCopy). IsReadBy h c.slice c.bytes c.reading) copies) → IsCopyAt copies slice o → IsReadableAt held h trusted slice o
-readable_at held h trusted copies slice None bytes read at = tt
-readable_at held h trusted copies slice (Some c) bytes read at = (
+readable_at : (held : Held) (h : Header) (v : Actor Carried) (trusted : Bool) (copies : List SliceCopy) (slice : ℕ) (o : Option SliceCopy) → All (λ (c : SliceCopy). HasBytes held (c.slice + 1) c.bytes) copies
+    → (trusted ≡ true → All (λ (c : SliceCopy). IsReadBy h v c.slice c.bytes c.reading) copies) → IsCopyAt copies slice o → IsReadableAt held h v trusted slice o
+readable_at held h v trusted copies slice None bytes read at = tt
+readable_at held h v trusted copies slice (Some c) bytes read at = (
   at.1,
   subst (λ k. HasBytes held (k + 1) c.bytes) at.1 (All-contains (λ (x : SliceCopy). HasBytes held (x.slice + 1) x.bytes) copies c bytes at.0),
-  λ t. All-contains (λ (x : SliceCopy). IsReadBy h x.slice x.bytes x.reading) copies c (read t) at.0,
+  λ t. All-contains (λ (x : SliceCopy). IsReadBy h v x.slice x.bytes x.reading) copies c (read t) at.0,
 )
 
-read_all : (head : Option HeadRead) (copies : List SliceCopy) (h : Header) → IsSome head → IfSome head (λ (r : HeadRead). IsGoodHead r h) → IfSome head (λ (r : HeadRead). AreReadBy r copies) → All (λ (c : SliceCopy). IsReadBy h c.slice c.bytes c.reading) copies
-read_all None copies h some good read = absurd (true≢false (sym some))
-read_all (Some r) copies h some good read = read h good
-
-pub readable : (held : Held) (h : Header) (k : Kept) (places : List (Option SliceCopy)) → IsBounded held → IsKeptOf held k → IsSome k.head → IfSome k.head (λ (r : HeadRead). IsGoodHead r h) → AreMissing held (slice_count h) []
-    → AreInOrder k.copies.items (slice_count h) places → AreReadable held h k.trusted places
-readable held h k places bounded kept some good missing order = record {
+pub readable : (held : Held) (h : Header) (v : Actor Carried) (trusted : Bool) (copies : List SliceCopy) (places : List (Option SliceCopy)) → All (λ (c : SliceCopy). HasBytes held (c.slice + 1) c.bytes) copies
+    → ((slice : ℕ) → slice < slice_count h → HasCopy copies slice) → (trusted ≡ true → All (λ (c : SliceCopy). IsReadBy h v c.slice c.bytes c.reading) copies) → AreInOrder copies (slice_count h) places → AreReadable held h v trusted places
+readable held h v trusted copies places bytes each read order = record {
   count = order.size;
-  there = λ slice below. order.each slice below (kept.each some slice (all_whole held (slice_count h) bounded missing slice below));
-  slice = λ slice below. readable_at held h k.trusted k.copies.items slice (get_or places slice None) kept.copies (λ t. read_all k.head k.copies.items h some good (kept.trusted t)) (order.from slice below);
+  there = λ slice below. order.each slice below (each slice below);
+  slice = λ slice below. readable_at held h v trusted copies slice (get_or places slice None) bytes read (order.from slice below);
 }
 
 -- What is taken of a place
 
-pub taken : (held : Held) (h : Header) (trusted : Bool) (places list : List (Option SliceCopy)) (slice : ℕ) (o : Option SliceCopy) → AreReadable held h trusted places → slice < slice_count h
-    → ((k : ℕ) → slice ≤ k → get_or list k None ≡ get_or places k None) → o ≡ get_or list slice None → IsSome o × IsReadableAt held h trusted slice o
-taken held h trusted places list slice o readable below left is =
+pub taken : (held : Held) (h : Header) (v : Actor Carried) (trusted : Bool) (places list : List (Option SliceCopy)) (slice : ℕ) (o : Option SliceCopy) → AreReadable held h v trusted places → slice < slice_count h
+    → ((k : ℕ) → slice ≤ k → get_or list k None ≡ get_or places k None) → o ≡ get_or list slice None → IsSome o × IsReadableAt held h v trusted slice o
+taken held h v trusted places list slice o readable below left is =
     let e : o ≡ get_or places slice None = is ∙ left slice (omega arith) in
-    (subst (λ (p : Option SliceCopy). IsSome p) (sym e) (readable.there slice below), subst (IsReadableAt held h trusted slice) (sym e) (readable.slice slice below))
+    (subst (λ (p : Option SliceCopy). IsSome p) (sym e) (readable.there slice below), subst (IsReadableAt held h v trusted slice) (sym e) (readable.slice slice below))
 
 -- the places past it are as before
 pub left_more : (places list now : List (Option SliceCopy)) (slice : ℕ) → now ≡ set list slice None → ((k : ℕ) → slice ≤ k → get_or list k None ≡ get_or places k None) → (k : ℕ) → slice + 1 ≤ k → get_or now k None ≡ get_or places k None

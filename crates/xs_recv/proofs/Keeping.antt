@@ -2,7 +2,7 @@
 use Rattle.std.proofs.Common.{◌≡◌, inl, inr, ℕ, suc, ◌+◌, Bool, true, false, true≢false, Option, Some, None, List, [], ◌∷◌, ◌++◌, All, Bor, sym, refl, ap, ◌∙◌, subst}
 use Rattle.std.specs.Prelude.{IsSome, IfSome, MatchOption}
 use Rattle.once_cell.specs.Once.{Agrees}
-use Rattle.std.specs.Option.{option_copied, option_or}
+use Rattle.std.specs.Option.{option_or}
 use Rattle.std.specs.List.{Contains}
 use Rattle.std.proofs.lemmas.List.Elements.{Contains-append_left, Contains-append_right, Contains-push, All-nil, All-cons, All-append, All-push, All-weaker, All-contains_itself}
 use Rattle.xs_params.specs.declared.header.Header.{Header}
@@ -13,8 +13,7 @@ use Rattle.xs_stored.specs.Stored.{packets, joined_bytes, IsCopy}
 use Rattle.xs_board.specs.declared.head.HeadRead.{HeadRead}
 use Rattle.xs_board.specs.Passes.{KnowsStill}
 use Rattle.xs_recv.specs.declared.activity.SliceCopy.{SliceCopy}
-use Rattle.xs_recv.specs.declared.activity.SliceReading.{SliceReading}
-use Rattle.xs_recv.specs.Activities.{HasAdded, IsKept, IsReadByKnown, IsReadIf, IsReadable, Keeps, KnowsHeader}
+use Rattle.xs_recv.specs.Activities.{IsKept, Keeps, KnowsHeader}
 
 -- Runs
 
@@ -51,19 +50,11 @@ head_after : (got more : List Offer) (head : Option HeadRead) → IfSome head (�
 head_after got more None c = tt
 head_after got more (Some r) c = copy_after got more 0 r.bytes c
 
--- Readings
+-- What is known
 
-known_header : (known now : Option HeadRead) (h : Header) → KnowsStill known now → KnowsHeader known h → KnowsHeader now h
+pub known_header : (known now : Option HeadRead) (h : Header) → KnowsStill known now → KnowsHeader known h → KnowsHeader now h
 known_header None now h still (r, e, n, is) = absurd (cc e)
 known_header (Some x) now h still (r, e, n, is) = (r, still ∙ e, n, is)
-
-reading_still : (known now : Option HeadRead) (slice : ℕ) (bytes : List ℕ) (reading : SliceReading) → KnowsStill known now → IsReadByKnown known slice bytes reading → IsReadByKnown now slice bytes reading
-reading_still known now slice bytes reading still (inl e) = inl e
-reading_still known now slice bytes reading still (inr (h, k, read)) = inr (h, known_header known now h still k, read)
-
-readings_still : (known now : Option HeadRead) (kept : List SliceCopy) → KnowsStill known now → All (λ (c : SliceCopy). IsReadByKnown known c.slice c.bytes c.reading) kept → All (λ (c : SliceCopy). IsReadByKnown now c.slice c.bytes c.reading) kept
-readings_still known now kept still all =
-    All-weaker (λ (c : SliceCopy). IsReadByKnown known c.slice c.bytes c.reading) (λ (c : SliceCopy). IsReadByKnown now c.slice c.bytes c.reading) (λ c. reading_still known now c.slice c.bytes c.reading still) kept all
 
 pub still_same : (known now : Option HeadRead) → now ≡ known → KnowsStill known now
 still_same None now e = tt
@@ -74,11 +65,6 @@ pub still_shown : (known now : Option HeadRead) (o : Option (Bor HeadRead)) → 
 still_shown known now None h = subst (λ (k : Option HeadRead). KnowsStill k now) (sym h.0) tt
 still_shown None now (Some r) h = tt
 still_shown (Some x) now (Some r) h = h.0 ∙ ap (λ (z : HeadRead). Some z) (sym h.1)
-
-read_known : (known : Option HeadRead) (header : Option (Bor Header)) (slice : ℕ) (bytes : List ℕ) (reading : SliceReading) → IfSome header (λ (h : Bor Header). IsReadable known h.now slice) → IsReadIf (option_copied header) slice bytes reading
-    → IsReadByKnown known slice bytes reading
-read_known known None slice bytes reading can read = inl read
-read_known known (Some h) slice bytes reading can read = inr (h.now, can.shown, read)
 
 -- Units
 
@@ -92,53 +78,33 @@ all_kept_in head now kept all got some more each = All-weaker (λ (p : Offer). I
 
 -- What happens to an activity
 
-pub keeps_none : (known : Option HeadRead) (got : List Offer) (kept : List SliceCopy) (s : Bool) → got ≡ [] → kept ≡ [] → Keeps got known None kept s
-keeps_none known got kept s none empty = subst (λ (l : List Offer). Keeps l known None kept s) (sym none) (subst (λ (l : List SliceCopy). Keeps [] known None l s) (sym empty) record {
+pub keeps_none : (got : List Offer) (kept : List SliceCopy) → got ≡ [] → kept ≡ [] → Keeps got None kept
+keeps_none got kept none empty = subst (λ (l : List Offer). Keeps l None kept) (sym none) (subst (λ (l : List SliceCopy). Keeps [] None l) (sym empty) record {
   header = tt;
   copies = All-nil (λ (c : SliceCopy). IsCopy [] (c.slice + 1) c.bytes);
-  readings = All-nil (λ (c : SliceCopy). IsReadByKnown known c.slice c.bytes c.reading);
-  each = λ f. All-nil (λ (p : Offer). IsKept None [] p.unit);
+  each = All-nil (λ (p : Offer). IsKept None [] p.unit);
 })
 
-pub starves : (got more now : List Offer) (known knows : Option HeadRead) (head : Option HeadRead) (kept : List SliceCopy) (s : Bool) → Keeps got known head kept s → now ≡ got ++ more → KnowsStill known knows → Keeps now knows head kept true
-starves got more now known knows head kept s k e still = subst (λ (g : List Offer). Keeps g knows head kept true) (sym e) record {
-  header = head_more got more head k.header;
-  copies = copies_more got more kept k.copies;
-  readings = readings_still known knows kept still k.readings;
-  each = λ f. absurd (true≢false f);
-}
+pub keeps_same : (got now : List Offer) (head : Option HeadRead) (kept : List SliceCopy) → Keeps got head kept → now ≡ got → Keeps now head kept
+keeps_same got now head kept k e = subst (λ (g : List Offer). Keeps g head kept) (sym e) k
 
-pub keeps_same : (got now : List Offer) (known knows : Option HeadRead) (head : Option HeadRead) (kept : List SliceCopy) (s : Bool) → Keeps got known head kept s → now ≡ got → KnowsStill known knows → Keeps now knows head kept s
-keeps_same got now known knows head kept s k e still = subst (λ (g : List Offer). Keeps g knows head kept s) (sym e) record { header = k.header; copies = k.copies; readings = readings_still known knows kept still k.readings; each = k.each }
-
-pub keeps_head : (got values now : List Offer) (known knows : Option HeadRead) (head : Option HeadRead) (kept : List SliceCopy) (s : Bool) (r : HeadRead) → Keeps got known head kept s → now ≡ got ++ values → KnowsStill known knows
-    → IsRun packets 0 0 values → r.bytes ≡ joined_bytes values → Keeps now knows (Some r) kept s
-keeps_head got values now known knows head kept s r k e still run joins = subst (λ (g : List Offer). Keeps g knows (Some r) kept s) (sym e) record {
+pub keeps_head : (got values now : List Offer) (head : Option HeadRead) (kept : List SliceCopy) (r : HeadRead) → Keeps got head kept → now ≡ got ++ values → IsRun packets 0 0 values → r.bytes ≡ joined_bytes values → Keeps now (Some r) kept
+keeps_head got values now head kept r k e run joins = subst (λ (g : List Offer). Keeps g (Some r) kept) (sym e) record {
   header = new_copy got values 0 r.bytes run joins;
   copies = copies_more got values kept k.copies;
-  readings = readings_still known knows kept still k.readings;
-  each = λ f. All-append (λ (p : Offer). IsKept (Some r) kept p.unit) got values (all_kept_in head (Some r) kept kept got (λ is. refl) (λ c has. has) (k.each f))
+  each = All-append (λ (p : Offer). IsKept (Some r) kept p.unit) got values (all_kept_in head (Some r) kept kept got (λ is. refl) (λ c has. has) k.each)
       (All-weaker (λ (p : Offer). p.unit ≡ 0) (λ (p : Offer). IsKept (Some r) kept p.unit) (λ p first. inl (first, refl)) values (run_lane packets 0 0 values run));
 }
 
-pub keeps_copy : (got values now : List Offer) (known knows : Option HeadRead) (head : Option HeadRead) (kept all : List SliceCopy) (s : Bool) (slice : ℕ) (bytes : List ℕ) (header : Option (Bor Header)) → Keeps got known head kept s → now ≡ got ++ values
-    → knows ≡ known → IsRun packets (slice + 1) 0 values → bytes ≡ joined_bytes values → IfSome header (λ (h : Bor Header). IsReadable known h.now slice) → HasAdded (option_copied header) slice bytes kept all → Keeps now knows head all s
-keeps_copy got values now known knows head kept all s slice bytes header k e same run joins can (reading, read, added) =
-    subst (λ (g : List Offer). Keeps g knows head all s) (sym e) (subst (λ (q : List SliceCopy). Keeps (got ++ values) knows head q s) (sym added) record {
-      header = head_more got values head k.header;
-      copies = All-push (λ (c : SliceCopy). IsCopy (got ++ values) (c.slice + 1) c.bytes) kept new (copies_more got values kept k.copies) (new_copy got values (slice + 1) bytes run joins);
-      readings = readings_still known knows (kept ++ new ∷ []) still
-          (All-push (λ (c : SliceCopy). IsReadByKnown known c.slice c.bytes c.reading) kept new k.readings (read_known known header slice bytes reading can read));
-      each = λ f. All-append (λ (p : Offer). IsKept head (kept ++ new ∷ []) p.unit) got values
-          (all_kept_in head head kept (kept ++ new ∷ []) got (λ is. is) (λ c has. Contains-append_left kept (new ∷ []) c has) (k.each f))
-          (All-weaker (λ (p : Offer). p.unit ≡ slice + 1) (λ (p : Offer). IsKept head (kept ++ new ∷ []) p.unit) (λ p of. inr (slice, of, (new, Contains-push kept new, refl))) values (run_lane packets (slice + 1) 0 values run));
-    })
-  where
-    new : SliceCopy
-    new = record { slice = slice; bytes = bytes; reading = reading }
-
-    still : KnowsStill known knows
-    still = still_same known knows same
+pub keeps_copy : (got values now : List Offer) (head : Option HeadRead) (kept : List SliceCopy) (new : SliceCopy) → Keeps got head kept → now ≡ got ++ values → IsRun packets (new.slice + 1) 0 values → new.bytes ≡ joined_bytes values → Keeps now head (kept ++ new ∷ [])
+keeps_copy got values now head kept new k e run joins = subst (λ (g : List Offer). Keeps g head (kept ++ new ∷ [])) (sym e) record {
+  header = head_more got values head k.header;
+  copies = All-push (λ (c : SliceCopy). IsCopy (got ++ values) (c.slice + 1) c.bytes) kept new (copies_more got values kept k.copies) (new_copy got values (new.slice + 1) new.bytes run joins);
+  each = All-append (λ (p : Offer). IsKept head (kept ++ new ∷ []) p.unit) got values
+      (all_kept_in head head kept (kept ++ new ∷ []) got (λ is. is) (λ c has. Contains-append_left kept (new ∷ []) c has) k.each)
+      (All-weaker (λ (p : Offer). p.unit ≡ new.slice + 1) (λ (p : Offer). IsKept head (kept ++ new ∷ []) p.unit) (λ p of. inr (new.slice, of, (new, Contains-push kept new, refl))) values
+      (run_lane packets (new.slice + 1) 0 values run));
+}
 
 -- Two activities that are joined
 
@@ -154,37 +120,11 @@ some_second : (head other : Option HeadRead) → IsSome other → IsSome (option
 some_second None other is = is
 some_second (Some r) other is = refl
 
-joins_whole : (got more : List Offer) (known other both : Option HeadRead) (head next : Option HeadRead) (kept add : List SliceCopy) (s s' t : Bool) → Keeps got known head kept s → Keeps more other next add s' → KnowsStill known both → KnowsStill other both
-    → (t ≡ false → s ≡ false) → (t ≡ false → s' ≡ false) → Keeps (got ++ more) both (option_or head next) (kept ++ add) t
-joins_whole got more known other both head next kept add s s' t k k' still still' one two = record {
+pub joins_kept : (got more : List Offer) (head next : Option HeadRead) (kept add : List SliceCopy) → Keeps got head kept → Keeps more next add → Keeps (got ++ more) (option_or head next) (kept ++ add)
+joins_kept got more head next kept add k k' = record {
   header = head_or got more head next k.header k'.header;
   copies = All-append (λ (c : SliceCopy). IsCopy (got ++ more) (c.slice + 1) c.bytes) kept add (copies_more got more kept k.copies) (copies_after got more add k'.copies);
-  readings = All-append (λ (c : SliceCopy). IsReadByKnown both c.slice c.bytes c.reading) kept add (readings_still known both kept still k.readings) (readings_still other both add still' k'.readings);
-  each = λ f. All-append (λ (p : Offer). IsKept (option_or head next) (kept ++ add) p.unit) got more
-      (all_kept_in head (option_or head next) kept (kept ++ add) got (some_first head next) (Contains-append_left kept add) (k.each (one f)))
-      (all_kept_in next (option_or head next) add (kept ++ add) more (some_second head next) (Contains-append_right kept add) (k'.each (two f)));
+  each = All-append (λ (p : Offer). IsKept (option_or head next) (kept ++ add) p.unit) got more
+      (all_kept_in head (option_or head next) kept (kept ++ add) got (some_first head next) (Contains-append_left kept add) k.each)
+      (all_kept_in next (option_or head next) add (kept ++ add) more (some_second head next) (Contains-append_right kept add) k'.each);
 }
-
-joins_part : (got more : List Offer) (known other both : Option HeadRead) (head next : Option HeadRead) (kept : List SliceCopy) (s t : Bool) → Keeps got known head kept s → IfSome next (λ (r : HeadRead). IsCopy more 0 r.bytes) → KnowsStill known both
-    → t ≡ true → Keeps (got ++ more) both (option_or head next) kept t
-joins_part got more known other both head next kept s t k c still starved = record {
-  header = head_or got more head next k.header c;
-  copies = copies_more got more kept k.copies;
-  readings = readings_still known both kept still k.readings;
-  each = λ f. absurd (true≢false (sym starved ∙ f));
-}
-
-not_false : (t : Bool) → (t ≡ false → ⊥) → t ≡ true
-not_false true n = refl
-not_false false n = absurd (n refl)
-
-pub joins_kept : (got more now : List Offer) (known other both : Option HeadRead) (head next first : Option HeadRead) (kept add all : List SliceCopy) (s s' t whole : Bool) → Keeps got known head kept s → Keeps more other next add s'
-    → now ≡ got ++ more → KnowsStill known both → KnowsStill other both → first ≡ option_or head next → (whole ≡ true → all ≡ kept ++ add) → (whole ≡ false → all ≡ kept) → (t ≡ false → whole ≡ true) → (t ≡ false → s ≡ false) → (t ≡ false → s' ≡ false)
-    → Keeps now both first all t
-joins_kept got more now known other both head next first kept add all s s' t whole k k' e still still' or is lost one two three =
-    subst (λ (g : List Offer). Keeps g both first all t) (sym e) (subst (λ (o : Option HeadRead). Keeps (got ++ more) both o all t) (sym or) (by whole is lost one))
-  where
-    by : (w : Bool) → (w ≡ true → all ≡ kept ++ add) → (w ≡ false → all ≡ kept) → (t ≡ false → w ≡ true) → Keeps (got ++ more) both (option_or head next) all t
-    by true is' lost' one' = subst (λ (q : List SliceCopy). Keeps (got ++ more) both (option_or head next) q t) (sym (is' refl)) (joins_whole got more known other both head next kept add s s' t k k' still still' two three)
-    by false is' lost' one' = subst (λ (q : List SliceCopy). Keeps (got ++ more) both (option_or head next) q t) (sym (lost' refl))
-        (joins_part got more known other both head next kept s t k k'.header still (not_false t (λ f. true≢false (sym (one' f)))))

@@ -1,5 +1,11 @@
 pub mod Filing
 pub mod Wholes
+pub mod Blocks
+pub mod Contents
+pub mod Handed
+pub mod Made
+pub mod Finished
+pub mod Filled
 pub mod Sizes
 pub mod Joined
 pub mod Pictures
@@ -10,6 +16,7 @@ pub mod OneAnswer
 pub mod Dealt
 pub mod Answered
 pub mod Keeping
+pub mod Rows
 pub mod Feeding
 pub mod Teams
 pub mod Swept

@@ -1,35 +1,28 @@
 -- A selection has one answer.
-use Rattle.std.proofs.Common.{◌≡◌, ◌≢◌, ℕ, ◌+◌, ◌<◌, ◌≤◌, ◌^◌, List, [], ◌∷◌, ◌++◌, get_or, Bool, true, false, Option, Some, None, refl, sym, ap, subst, ◌∙◌, arith, inl, inr, Contains}
+use Rattle.std.proofs.Common.{◌≡◌, ◌≢◌, ℕ, ◌+◌, ◌<◌, ◌^◌, List, [], ◌∷◌, get_or, true, false, Option, Some, None, refl, sym, ap, subst, ◌∙◌, arith, inl, inr, Contains}
 use mathlib.Core.Path.{fun_ext}
 use mathlib.Core.Logic.{◌⊎◌}
-use Rattle.std.specs.Prelude.{nat_eq, IfSome}
-use Rattle.std.specs.Bool.{MatchBool}
+use Rattle.std.specs.Prelude.{IfSome}
 use Rattle.std.specs.Option.{option_map_or}
-use Rattle.std.specs.List.{AllByRecursion, flat_map}
+use Rattle.std.specs.List.{flat_map}
 use Rattle.std.proofs.lemmas.Bool.{cases_order}
 use Rattle.std.proofs.lemmas.List.{ext_get_or}
 use Rattle.xs_lists.specs.Packing.{AreBytes}
 use Rattle.xs_lists.specs.Spelling.{upto}
-use Rattle.xs_lists.proofs.Each.{range-all}
 use Rattle.xs_lists.proofs.Walk.{all-append}
 use Rattle.xs_params.specs.declared.header.Header.{Header}
 use Rattle.xs_params.specs.Accepted.{IsAccepted}
-use Rattle.xs_params.specs.Geometry.{precincts_of, slice_count}
-use Rattle.xs_params.specs.Markers.{eoc}
+use Rattle.xs_params.specs.Geometry.{slice_count}
 use Rattle.xs_params.specs.Picture.{IsPlace, Picture}
 use Rattle.xs_faults.specs.declared.HeadFault.{HeadFault}
 use Rattle.xs_faults.specs.declared.SliceFault.{SliceFault}
 use Rattle.xs_grammar.specs.Precinct.{Content}
-use Rattle.xs_grammar.specs.Slice.{IsSlice, IsSliceUnit}
-use Rattle.xs_grammar.specs.Laws.{SamePrecinct}
-use Rattle.xs_grammar.proofs.OneSlice.{one_slice}
 use Rattle.xs_reading.specs.Rows.{dequantised_rows}
 use Rattle.xs_reading.proofs.Whole.{slices_known}
 use Rattle.xs_markers.specs.Units.{header_unit_at, header_unit_fault}
 use Rattle.xs_markers.proofs.UnitsKnown.{header_units_known}
 use Rattle.xs_decoding.specs.Decoded.{IsDecodingOf}
 use Rattle.xs_decoding.proofs.Within.{decoded_within}
-use Rattle.xs_decoding.proofs.OneContent.{within_one}
 use Rattle.xs_capture.specs.Offer.{Offer}
 use Rattle.xs_capture.specs.Selection.{AreMissing, HasBytes, Held, IsSelection, IsWholeUnit, bytes_at}
 use Rattle.xs_capture.proofs.Firsts.{here}
@@ -40,6 +33,7 @@ use Rattle.xs_recv.specs.declared.received.Received.TheVariants as received
 use Rattle.xs_recv.specs.Received.{AreSpelled, AreUnits, HasHeader, IsDamagedAt, IsReceived, fault_in, slice_unit, stream_size}
 use Rattle.xs_recv.specs.Laws.{AnswerOfSet, AreOffers, OneAnswer}
 use Rattle.xs_recv.proofs.Ascending.{one_ascending}
+use Rattle.xs_recv.proofs.Contents.{one_content}
 use Rattle.xs_recv.proofs.Samples.{one_picture}
 use Rattle.xs_recv.proofs.Wholes.{one_unit}
 
@@ -66,26 +60,11 @@ some_one x y e = cc e
 
 -- Contents of the same units
 
-slices_same : (h : Header) (content other : Content) (slice : ℕ) (bytes : List ℕ) → h.nly ≤ h.nlx → IsSliceUnit h content slice bytes → IsSliceUnit h other slice bytes → AllByRecursion (SamePrecinct h content other) (precincts_of h slice)
-slices_same h content other slice bytes deep p q = go (nat_eq (slice + 1) (slice_count h)) p q
-  where
-    go : (b : Bool) → MatchBool b ((front : List ℕ) × (bytes ≡ front ++ eoc) × IsSlice h content slice front) (IsSlice h content slice bytes)
-        → MatchBool b ((front : List ℕ) × (bytes ≡ front ++ eoc) × IsSlice h other slice front) (IsSlice h other slice bytes) → AllByRecursion (SamePrecinct h content other) (precincts_of h slice)
-    go true x y = (one_slice h content other slice x.0 y.0 eoc eoc deep x.2 y.2 (sym x.1 ∙ y.1)).1
-    go false x y = (one_slice h content other slice bytes bytes [] [] deep x y refl).1
-
 decoded_one : (h : Header) (content other : Content) (units : List (List ℕ)) (p q : Picture) → IsAccepted h → AreSpelled h content units → AreSpelled h other units → IsDecodingOf h content p → IsDecodingOf h other q → p ≡ q
 decoded_one h content other units p q accepted first second a b =
     one_picture p q a.whole b.whole (a.shape ∙ sym b.shape) (λ component row column place.
     let at = subst (λ s. IsPlace s component row column) a.shape place in
-    a.samples component row column at ∙ decoded_within h (dequantised_rows h content) (dequantised_rows h other) component row column accepted (within_one h content other accepted same) at ∙ sym (b.samples component row column at))
-  where
-    deep : h.nly ≤ h.nlx
-    deep = let less = accepted.geometry.nly in omega (arith, less)
-
-    same : AllByRecursion (λ slice. AllByRecursion (SamePrecinct h content other) (precincts_of h slice)) (upto (slice_count h))
-    same = range-all (λ slice. AllByRecursion (SamePrecinct h content other) (precincts_of h slice)) 0 (slice_count h)
-        (λ slice low high. let there : slice < slice_count h = omega (arith, high) in slices_same h content other slice (get_or units slice []) deep (first slice there) (second slice there))
+    a.samples component row column at ∙ decoded_within h (dequantised_rows h content) (dequantised_rows h other) component row column accepted (one_content h content other units accepted first second) at ∙ sym (b.samples component row column at))
 
 -- Answers in stages: after the slices are read, after all are whole, after the header, and from the start
 

@@ -7,12 +7,13 @@ use Rattle.std.proofs.lemmas.List.Concat.{length-flat_map}
 use Rattle.std.proofs.lemmas.List.Sums.{sum_by-cons}
 use Rattle.xs_lists.specs.Spelling.{upto}
 use Rattle.xs_params.specs.declared.header.Header.{Header}
-use Rattle.xs_geometry.specs.SliceLines.{BandLines}
+use Rattle.xs_lane_core.specs.Machine.{Actor}
+use Rattle.xs_handover.specs.Blocks.{Carried}
 use Rattle.xs_capture.specs.Offer.{last_unit, unit_places}
 use Rattle.xs_capture.specs.Selection.{EndsAt, HasBytes, Held, IsBounded, bytes_at}
 use Rattle.xs_recv.specs.Filed.{IsReceivable, held_size, unit_size}
 use Rattle.xs_recv.specs.Received.{HasHeader}
-use Rattle.xs_recv.specs.Reading.{AreRead}
+use Rattle.xs_recv.specs.Reading.{AreHandedUpTo}
 
 -- a sum over a front of a range
 sum_front : (f : ℕ → ℕ) (first n more : ℕ) → sum_by f (range_with_len first n) ≤ sum_by f (range_with_len first (n + more))
@@ -112,9 +113,9 @@ header_size held h size bounded headed =
     within : (size stream boxes bytes all : ℕ) → size ≡ stream → bytes ≡ boxes + stream → bytes ≤ all → size ≤ all
     within size stream boxes bytes all p q r = omega (arith, p, q, r)
 
--- and all that was read of a codestream has few bytes
-pub read_short : (held : Held) (h : Header) (size count : ℕ) (slices : List (List BandLines)) (total : ℕ) → IsReceivable held → HasHeader held h size → count ≤ last_unit → AreRead held h size count slices total → total < 2 ^ 32
-read_short held h size count slices total receivable headed few so =
+-- and all that was handed of a codestream has few bytes
+pub handed_short : (held : Held) (h : Header) (size count : ℕ) (v : Actor Carried) (total : ℕ) → IsReceivable held → HasHeader held h size → count ≤ last_unit → AreHandedUpTo held h size count v total → total < 2 ^ 32
+handed_short held h size count v total receivable headed few so =
     let some : length so.units ≤ last_unit = fewer (length so.units) count last_unit so.as_many few in
     let sum = units_held held so.units 1 (λ k there. moved k (whole_size held (k + 1) (get_or so.units k []) receivable.bounded (so.whole k (inside k (length so.units) count there so.as_many)))) in
     short total size (sum_by length so.units) (unit_size held 0) (sum_by (unit_size held) (range_with_len 1 (length so.units))) (held_size held) so.sized (header_size held h size receivable.bounded headed) sum (all_held held (length so.units) some) receivable.size

@@ -11,9 +11,13 @@ use Rattle.xs_stored.specs.Stored.{IsFiled}
 use Rattle.xs_board.specs.declared.board.Board.{Board}
 use Rattle.xs_board.specs.declared.board.BoardPass.{BoardPass}
 use Rattle.xs_board.specs.Passes.{IsBoardPass, unit_count, actor}
+use Rattle.xs_handover.specs.declared.handover.Handover.{Handover}
+use Rattle.xs_handover.specs.declared.handover.HandPass.{HandPass}
+use Rattle.xs_handover.specs.Passes.{IsHandPass, actor as hand_actor}
 use Rattle.xs_recv.specs.Activities.{Doing}
 use Rattle.xs_recv.specs.declared.activity.Feed.{Feed}
-use Rattle.xs_recv.specs.Filing.{AreFiledBy, AreForked, HasFiled, HasRun, IsFedBy, IsUnusedBoardPass, MayJoin, fed}
+use Rattle.xs_recv.specs.declared.exchange.Exchange.{Exchange}
+use Rattle.xs_recv.specs.Filing.{AreFiledBy, AreForked, HandsForked, HasFiled, HasRun, IsFedBy, IsUnusedPass, MayJoin, MayJoinHands, fed}
 
 -- Lists
 
@@ -45,14 +49,18 @@ module _ {A : Type 0} where
 
 -- Passes are split off
 
-copied_fresh : (v : Actor Offer) → IsUnusedBoardPass (copied v)
-copied_fresh v = record { stored = refl; repeated = refl; got = refl }
+module _ {T : Type 0} where
+  copied_fresh : (v : Actor T) → IsUnusedPass (copied v)
+  copied_fresh v = record { stored = refl; repeated = refl; got = refl }
 
-pub fresh_of : (v w : Actor Offer) → w ≡ copied v → IsUnusedBoardPass w
-fresh_of v w e = subst IsUnusedBoardPass (sym e) (copied_fresh v)
+  pub fresh_of : (v w : Actor T) → w ≡ copied v → IsUnusedPass w
+  fresh_of v w e = subst IsUnusedPass (sym e) (copied_fresh v)
 
-pub newcomer_fresh : (w : Actor Offer) → w ≡ newcomer → IsUnusedBoardPass w
-newcomer_fresh w e = subst IsUnusedBoardPass (sym e) (record { stored = refl; repeated = refl; got = refl })
+  pub newcomer_fresh : (w : Actor T) → w ≡ newcomer → IsUnusedPass w
+  newcomer_fresh w e = subst IsUnusedPass (sym e) (record { stored = refl; repeated = refl; got = refl })
+
+  half_fresh : (v : Actor T) → IsUnusedPass v → IsUnusedPass (halves v)
+  half_fresh v f = record { stored = f.stored; repeated = f.repeated; got = f.got }
 
 pub forked_none : (b : Board) (first : BoardPass) (others : List Doing) → IsBoardPass b first → actor first ≡ newcomer → others ≡ [] → AreForked b [] first others
 forked_none b first others pass e none = subst (λ (l : List Doing). AreForked b [] first l) (sym none) record {
@@ -61,7 +69,7 @@ forked_none b first others pass e none = subst (λ (l : List Doing). AreForked b
   fresh = newcomer_fresh (actor first) e;
   passes = All-nil (λ (a : Doing). IsBoardPass b a.pass);
   shares = λ i d lt. absurd (omega (arith, lt));
-  idle = All-nil (λ (a : Doing). IsUnusedBoardPass (actor a.pass));
+  idle = All-nil (λ (a : Doing). IsUnusedPass (actor a.pass));
   units = All-nil (λ (a : Doing). All (λ (p : Offer). p.unit < unit_count b) a.part);
   within = All-nil (λ (a : Doing). All (Contains []) a.part);
   each = All-nil (IsFedBy []);
@@ -70,18 +78,15 @@ forked_none b first others pass e none = subst (λ (l : List Doing). AreForked b
 fed_still : (others : List Doing) (a : Doing) (p : Offer) → IsFedBy others p → IsFedBy (others ++ a ∷ []) p
 fed_still others a p (x, has, is) = (x, Contains-append_left others (a ∷ []) x has, is)
 
-half_fresh : (v : Actor Offer) → IsUnusedBoardPass v → IsUnusedBoardPass (halves v)
-half_fresh v f = record { stored = f.stored; repeated = f.repeated; got = f.got }
-
 pub forked_more : (b : Board) (offers part : List Offer) (first now : BoardPass) (others all : List Doing) (a : Doing) → all ≡ others ++ a ∷ [] → IsBoardPass b now → actor now ≡ halves (actor first) → IsBoardPass b a.pass → actor a.pass ≡ copied (actor first)
     → a.part ≡ part → All (λ (p : Offer). p.unit < unit_count b) part → AreForked b offers first others → AreForked b (part ++ offers) now all
 forked_more b offers part first now others all a e pass half theirs copy is units f = subst (λ (l : List Doing). AreForked b (part ++ offers) now l) (sym e) record {
   pass = pass;
   share = subst (λ n. HasPart n (actor now)) more (subst (HasPart (length others + 1)) (sym half) shared.0);
-  fresh = subst IsUnusedBoardPass (sym half) (half_fresh (actor first) f.fresh);
+  fresh = subst IsUnusedPass (sym half) (half_fresh (actor first) f.fresh);
   passes = All-push (λ (x : Doing). IsBoardPass b x.pass) others a f.passes theirs;
   shares = pushes (λ i (x : Doing). HasPart (i + 1) (actor x.pass)) others a f.shares (subst (HasPart (length others + 1)) (sym copy) shared.1);
-  idle = All-push (λ (x : Doing). IsUnusedBoardPass (actor x.pass)) others a f.idle (fresh_of (actor first) (actor a.pass) copy);
+  idle = All-push (λ (x : Doing). IsUnusedPass (actor x.pass)) others a f.idle (fresh_of (actor first) (actor a.pass) copy);
   units = All-push (λ (x : Doing). All (λ (p : Offer). p.unit < unit_count b) x.part) others a f.units (subst (All (λ (p : Offer). p.unit < unit_count b)) (sym is) units);
   within = All-push (λ (x : Doing). All (Contains (part ++ offers)) x.part) others a
       (All-weaker (λ (x : Doing). All (Contains offers) x.part) (λ (x : Doing). All (Contains (part ++ offers)) x.part) (λ x within. All-weaker (Contains offers) (Contains (part ++ offers)) (Contains-append_right part offers) x.part within) others f.within)
@@ -97,6 +102,33 @@ forked_more b offers part first now others all a e pass half theirs copy is unit
     more : length others + 1 ≡ length (others ++ a ∷ [])
     more = let n = longer others a in omega (arith, n)
 
+-- Passes of the handover are split off
+
+pub hands_none : (h : Handover) (first : HandPass) (others : List Doing) → IsHandPass h first → hand_actor first ≡ newcomer → others ≡ [] → HandsForked h first others
+hands_none h first others pass e none = subst (HandsForked h first) (sym none) record {
+  pass = pass;
+  share = subst (HasPart 0) (sym e) (refl, refl);
+  fresh = newcomer_fresh (hand_actor first) e;
+  passes = All-nil (λ (a : Doing). IsHandPass h a.hand);
+  shares = λ i d lt. absurd (omega (arith, lt));
+}
+
+pub hands_more : (h : Handover) (first now : HandPass) (others all : List Doing) (a : Doing) → all ≡ others ++ a ∷ [] → IsHandPass h now → hand_actor now ≡ halves (hand_actor first) → IsHandPass h a.hand → hand_actor a.hand ≡ copied (hand_actor first)
+    → HandsForked h first others → HandsForked h now all
+hands_more h first now others all a e pass half theirs copy f = subst (HandsForked h now) (sym e) record {
+  pass = pass;
+  share = subst (λ n. HasPart n (hand_actor now)) more (subst (HasPart (length others + 1)) (sym half) shared.0);
+  fresh = subst IsUnusedPass (sym half) (half_fresh (hand_actor first) f.fresh);
+  passes = All-push (λ (x : Doing). IsHandPass h x.hand) others a f.passes theirs;
+  shares = pushes (λ i (x : Doing). HasPart (i + 1) (hand_actor x.hand)) others a f.shares (subst (HasPart (length others + 1)) (sym copy) shared.1);
+}
+  where
+    shared : HasPart (length others + 1) (halves (hand_actor first)) × HasPart (length others + 1) (copied (hand_actor first))
+    shared = splits_part (length others) (hand_actor first) f.share
+
+    more : length others + 1 ≡ length (others ++ a ∷ [])
+    more = let n = longer others a in omega (arith, n)
+
 -- Activities ran
 
 stored_within : (offers : List Offer) (part : List Offer) (v w : Actor Offer) → v.stored ≡ [] → All (Contains offers) part → All (λ (p : Offer). Contains v.stored p ⊎ Contains part p) w.stored → All (Contains offers) w.stored
@@ -106,11 +138,23 @@ stored_within offers part v w none within files = All-weaker (λ (p : Offer). Co
     of p (inl c) = absurd (let lt = c.1 in let e = ap length none in omega arith)
     of p (inr c) = All-contains (Contains offers) part p within c
 
-module _ (b : Board) (offers : List Offer) (first : BoardPass) (old new : List Doing) (size : length new ≡ length old) (f : AreForked b offers first old) (ran : (i : ℕ) (d : Doing) → i < length old → HasRun b (get_or old i d) (get_or new i d)) where
+pub may_join_hands : (x : Exchange) (first : HandPass) (old new : List Doing) → length new ≡ length old → HandsForked x.handover first old → ((i : ℕ) (d : Doing) → i < length old → HasRun x (get_or old i d) (get_or new i d))
+    → MayJoinHands x.handover (length new) first new
+may_join_hands x first old new size f ran = record {
+  pass = f.pass;
+  share = first_rest (length new) (hand_actor first) (subst (λ n. HasPart n (hand_actor first)) (sym size) f.share);
+  passes = λ i d lt. (ran i d (below i lt)).hand.pass;
+  shares = λ i d lt. let s = (ran i d (below i lt)).hand.share in let p = f.shares i d (below i lt) in (s.0 ∙ p.0, s.1 ∙ p.1);
+}
+  where
+    below : (i : ℕ) → i < length new → i < length old
+    below i lt = omega (arith, lt, size)
+
+module _ (x : Exchange) (offers : List Offer) (first : BoardPass) (old new : List Doing) (size : length new ≡ length old) (f : AreForked x.board offers first old) (ran : (i : ℕ) (d : Doing) → i < length old → HasRun x (get_or old i d) (get_or new i d)) where
   below : (i : ℕ) → i < length new → i < length old
   below i lt = omega (arith, lt, size)
 
-  pub may_join : MayJoin b (length new) first new
+  pub may_join : MayJoin x.board (length new) first new
   may_join = record {
     pass = f.pass;
     share = first_rest (length new) (actor first) (subst (λ n. HasPart n (actor first)) (sym size) f.share);
@@ -120,7 +164,7 @@ module _ (b : Board) (offers : List Offer) (first : BoardPass) (old new : List D
 
   filed_there : (p : Offer) → IsFedBy old p → (a : Doing) × Contains new a × IsFiled (actor a.pass) p
   filed_there p (a, (i, lt, e), is) =
-      let r : HasRun b a (get_or new i a) = subst (λ (x : Doing). HasRun b x (get_or new i a)) e (ran i a lt) in
+      let r : HasRun x a (get_or new i a) = subst (λ (y : Doing). HasRun x y (get_or new i a)) e (ran i a lt) in
       (get_or new i a, Contains-get_or new i a (omega (arith, lt, size)), All-contains (IsFiled (actor (get_or new i a).pass)) a.part p r.each is)
 
   pub filed_by : AreFiledBy offers (actor first) new
@@ -152,6 +196,27 @@ join_one b n v now old rest o e pass union m = record {
 
     shares : ((i : ℕ) (d : Doing) → i < length rest → HasPart (i + 1) (actor (get_or rest i d).pass)) × HasPart (length rest + 1) (actor o.pass)
     shares = pops (λ i (x : Doing). HasPart (i + 1) (actor x.pass)) old rest o e m.shares
+
+pub join_hand : (h : Handover) (n : ℕ) (v now : HandPass) (old rest : List Doing) (o : Doing) → old ≡ rest ++ o ∷ [] → IsHandPass h now → hand_actor now ≡ joined (hand_actor v) (hand_actor o.hand) → MayJoinHands h n v old → MayJoinHands h n now rest
+join_hand h n v now old rest o e pass union m = record {
+  pass = pass;
+  share = subst (HasRest n (length rest)) (sym union)
+      (joins_rest n (length rest) (hand_actor v) (hand_actor o.hand) (subst (λ k. HasRest n k (hand_actor v)) size m.share) (subst (λ k. HasPart k (hand_actor o.hand)) one shares.1));
+  passes = passes.0;
+  shares = shares.0;
+}
+  where
+    size : length old ≡ suc (length rest)
+    size = ap length e ∙ longer rest o
+
+    one : length rest + 1 ≡ suc (length rest)
+    one = omega arith
+
+    passes : ((i : ℕ) (d : Doing) → i < length rest → IsHandPass h (get_or rest i d).hand) × IsHandPass h o.hand
+    passes = pops (λ i (x : Doing). IsHandPass h x.hand) old rest o e m.passes
+
+    shares : ((i : ℕ) (d : Doing) → i < length rest → HasPart (i + 1) (hand_actor (get_or rest i d).hand)) × HasPart (length rest + 1) (hand_actor o.hand)
+    shares = pops (λ i (x : Doing). HasPart (i + 1) (hand_actor x.hand)) old rest o e m.shares
 
 filed_left : (v w : Actor Offer) (p : Offer) → IsFiled v p → IsFiled (joined v w) p
 filed_left v w p (inl c) = inl (Contains-append_left v.stored w.stored p c)

@@ -9,8 +9,12 @@ use Rattle.xs_stored.specs.Stored.{IsFiled}
 use Rattle.xs_board.specs.declared.board.Board.{Board}
 use Rattle.xs_board.specs.declared.board.BoardPass.{BoardPass}
 use Rattle.xs_board.specs.Passes.{IsBoardPass, unit_count, actor}
+use Rattle.xs_handover.specs.declared.handover.Handover.{Handover}
+use Rattle.xs_handover.specs.declared.handover.HandPass.{HandPass}
+use Rattle.xs_handover.specs.Passes.{IsHandPass, actor as hand_actor}
 use Rattle.xs_recv.specs.declared.activity.Feed.{Feed}
-use Rattle.xs_recv.specs.Activities.{Doing}
+use Rattle.xs_recv.specs.declared.exchange.Exchange.{Exchange}
+use Rattle.xs_recv.specs.Activities.{Doing, HasHand}
 
 -- the packet was stored, or its place is repeated
 abbrev pub Puts : Offer → Actor Offer → Actor Offer → Type 0
@@ -25,8 +29,9 @@ abbrev pub IsLeft : List Offer → Actor Offer → List Offer → Type 0
 IsLeft part w rest = All (Contains part) rest × All (λ (p : Offer). Contains rest p ⊎ IsFiled w p) part
 
 -- An activity filed its part and nothing else.
-pub record HasRun (b : Board) (old new : Doing) : Type 0 where
-  pub pass : IsBoardPass b new.pass
+pub record HasRun (e : Exchange) (old new : Doing) : Type 0 where
+  pub pass : IsBoardPass e.board new.pass
+  pub hand : HasHand e.handover old.hand new.hand
   pub share : SameShare (actor old.pass) (actor new.pass)
   pub files : FilesOf old.part (actor old.pass) (actor new.pass)
   pub each : All (IsFiled (actor new.pass)) old.part
@@ -36,14 +41,15 @@ abbrev pub fed : List Feed → List Offer
 fed feeds = flat_map (λ (f : Feed). f.part.items) feeds
 
 -- all packets of all feeds are of the first so many units
-abbrev pub AreOf : ℕ → List Feed → Type 0
-AreOf units feeds = All (λ (f : Feed). All (λ (p : Offer). p.unit < units) f.part.items) feeds
+abbrev pub AreOfUnits : ℕ → List Feed → Type 0
+AreOfUnits units feeds = All (λ (f : Feed). All (λ (p : Offer). p.unit < units) f.part.items) feeds
 
--- the pass did nothing
-pub record IsUnusedBoardPass (v : Actor Offer) : Type 0 where
-  pub stored : v.stored ≡ []
-  pub repeated : v.repeated ≡ []
-  pub got : v.got ≡ []
+module _ {T : Type 0} where
+  -- the pass did nothing
+  pub record IsUnusedPass (v : Actor T) : Type 0 where
+    pub stored : v.stored ≡ []
+    pub repeated : v.repeated ≡ []
+    pub got : v.got ≡ []
 
 -- a packet that the activities shall file
 abbrev pub IsFedBy : List Doing → Offer → Type 0
@@ -53,13 +59,21 @@ IsFedBy others p = (a : Doing) × Contains others a × Contains a.part p
 pub record AreForked (b : Board) (offers : List Offer) (first : BoardPass) (others : List Doing) : Type 0 where
   pub pass : IsBoardPass b first
   pub share : HasPart (length others) (actor first)
-  pub fresh : IsUnusedBoardPass (actor first)
+  pub fresh : IsUnusedPass (actor first)
   pub passes : All (λ (a : Doing). IsBoardPass b a.pass) others
   pub shares : (i : ℕ) (d : Doing) → i < length others → HasPart (i + 1) (actor (slice_index_or others i d).pass)
-  pub idle : All (λ (a : Doing). IsUnusedBoardPass (actor a.pass)) others
+  pub idle : All (λ (a : Doing). IsUnusedPass (actor a.pass)) others
   pub units : All (λ (a : Doing). All (λ (p : Offer). p.unit < unit_count b) a.part) others
   pub within : All (λ (a : Doing). All (Contains offers) a.part) others
   pub each : All (IsFedBy others) offers
+
+-- Passes of the handover were split off for activities.
+pub record HandsForked (h : Handover) (first : HandPass) (others : List Doing) : Type 0 where
+  pub pass : IsHandPass h first
+  pub share : HasPart (length others) (hand_actor first)
+  pub fresh : IsUnusedPass (hand_actor first)
+  pub passes : All (λ (a : Doing). IsHandPass h a.hand) others
+  pub shares : (i : ℕ) (d : Doing) → i < length others → HasPart (i + 1) (hand_actor (slice_index_or others i d).hand)
 
 -- Passes of activities may be joined, the last one first, until n were.
 pub record MayJoin (b : Board) (n : ℕ) (first : BoardPass) (others : List Doing) : Type 0 where
@@ -67,6 +81,13 @@ pub record MayJoin (b : Board) (n : ℕ) (first : BoardPass) (others : List Doin
   pub share : HasRest n (length others) (actor first)
   pub passes : All (λ (a : Doing). IsBoardPass b a.pass) others
   pub shares : (i : ℕ) (d : Doing) → i < length others → HasPart (i + 1) (actor (slice_index_or others i d).pass)
+
+-- The same of passes of the handover.
+pub record MayJoinHands (h : Handover) (n : ℕ) (first : HandPass) (others : List Doing) : Type 0 where
+  pub pass : IsHandPass h first
+  pub share : HasRest n (length others) (hand_actor first)
+  pub passes : All (λ (a : Doing). IsHandPass h a.hand) others
+  pub shares : (i : ℕ) (d : Doing) → i < length others → HasPart (i + 1) (hand_actor (slice_index_or others i d).hand)
 
 -- The offers are filed by the pass or by an activity, and nothing else is.
 pub record AreFiledBy (offers : List Offer) (v : Actor Offer) (others : List Doing) : Type 0 where

@@ -1,7 +1,9 @@
 pub mod Received
 pub mod Filed
-pub mod Reading
-pub mod Laws
+pub mod Handed
 pub mod Activities
+pub mod Reading
+pub mod Finishing
+pub mod Laws
 pub mod Filing
 pub mod Sweeping

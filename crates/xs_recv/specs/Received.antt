@@ -1,7 +1,8 @@
 -- What is received of a picture, by the packets that are selected of its offers: 'RTP packets and captures' and 'Notes'.
-use Rattle.std.specs.Prelude.{◌≡◌, ◌≢◌, ℕ, ◌+◌, ◌<◌, ◌⊎◌, true, false, Option, None, Some, List, [], length, sum_by, flat_map, slice_index_or}
+use Rattle.std.specs.Prelude.{◌≡◌, ◌≢◌, ⊤, ℕ, ◌+◌, ◌*◌, ◌<◌, ◌≤◌, ◌⊎◌, true, false, Option, None, Some, List, All, [], length, sum_by, flat_map, slice_index, slice_index_or}
 use Rattle.xs_params.specs.declared.header.Header.{Header}
 use Rattle.xs_params.specs.Geometry.{slice_count}
+use Rattle.xs_params.specs.Picture.{IsPlace, Picture, sample_at}
 use Rattle.xs_faults.specs.declared.SliceFault.{SliceFault}
 use Rattle.xs_grammar.specs.Header.{IsHeaderUnit}
 use Rattle.xs_grammar.specs.Precinct.{Content}
@@ -9,11 +10,17 @@ use Rattle.xs_grammar.specs.Slice.{IsSliceUnit}
 use Rattle.xs_reading.specs.Slice.{slice_unit_fault}
 use Rattle.xs_markers.specs.Units.{header_unit_fault}
 use Rattle.xs_decoding.specs.Decoded.{IsDecodingOf}
+use Rattle.xs_lane_core.specs.Machine.{Actor}
+use Rattle.xs_lanes.specs.Claiming.{got_in}
+use Rattle.xs_stripe.specs.declared.stripe.Stripe.{Stripe}
+use Rattle.xs_stripe.specs.Stripe.{line_of, stripe_row}
+use Rattle.xs_handover.specs.Blocks.{Carried, blocks}
 use Rattle.xs_capture.specs.Offer.{Offer}
 use Rattle.xs_capture.specs.Selection.{Held, IsWholeUnit, HasBytes, AreMissing}
 use Rattle.xs_recv.specs.declared.received.Damage.TheVariants as damage
 use Rattle.xs_recv.specs.declared.received.Received.{Received}
 use Rattle.xs_recv.specs.declared.received.Received.TheVariants as received
+use Rattle.xs_recv.specs.Handed.{IsBlockIn, IsMadeBy}
 
 -- Offers
 
@@ -79,3 +86,30 @@ IsReceived held (received.Damaged (damage.Lcod stated actual)) =
 IsReceived held (received.Picture picture) =
     (h : Header) × (size : ℕ) × HasHeader held h size × (units : List (List ℕ)) × AreUnits held h units × (content : Content) × AreSpelled h content units
     × ((h.lcod ≡ 0) ⊎ (h.lcod ≡ stream_size size units)) × IsDecodingOf h content picture
+
+-- Stripes
+
+-- the picture has the stripe's samples in the stripe's lines
+abbrev pub HasLinesOf : Picture → Stripe → Type 0
+HasLinesOf picture stripe = (component line column : ℕ) → IsPlace picture.shape component line column → stripe.first ≤ line → line < stripe.end
+    → slice_index (stripe_row stripe component line) column ≡ sample_at picture component line column
+
+-- The lines of a slice are those of a stripe that was synthesised of what was got.
+pub record HasStripeLines (h : Header) (picture : Picture) (v : Actor Carried) (slice : ℕ) : Type 0 where
+  pub stripe : Stripe
+  pub made : IsMadeBy h v slice stripe
+  pub first : stripe.first ≡ line_of h (slice * h.hsl)
+  pub end : stripe.end ≡ line_of h ((slice + 1) * h.hsl)
+  pub lines : HasLinesOf picture stripe
+
+-- All that was handed is of units that are whole, read by this header. The stripe of each slice was got, and the picture has its lines.
+pub record IsOfStripes (held : Held) (h : Header) (picture : Picture) (v : Actor Carried) : Type 0 where
+  pub handed : All (IsBlockIn held h) v.stored
+  pub got : (slice : ℕ) → slice < slice_count h → 0 < got_in blocks slice v
+  pub lines : (slice : ℕ) → slice < slice_count h → HasStripeLines h picture v slice
+
+-- A picture is put together of stripes, which are synthesised of what was handed of the units that are held; any other answer is of none.
+abbrev pub IsSynthesised : Held → Received → Actor Carried → Type 0
+IsSynthesised held (received.Picture picture) v = (h : Header) × (size : ℕ) × HasHeader held h size × IsOfStripes held h picture v
+IsSynthesised held (received.Missing header slices) v = ⊤
+IsSynthesised held (received.Damaged damage) v = ⊤

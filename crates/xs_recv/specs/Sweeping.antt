@@ -1,8 +1,6 @@
 -- A pass with the whole share claims all that is whole.
-use Rattle.std.specs.Prelude.{◌≡◌, ℕ, ◌+◌, ◌<◌, Bool, false, true, Option, None, IsSome, IfSome, MatchOption, List, All, length, slice_index_or}
-use Rattle.std.specs.List.{Contains}
+use Rattle.std.specs.Prelude.{◌≡◌, ℕ, ◌+◌, ◌<◌, false, true, Option, IsSome, IfSome, MatchOption, List, All}
 use Rattle.xs_params.specs.declared.header.Header.{Header}
-use Rattle.xs_params.specs.Geometry.{slice_count}
 use Rattle.xs_lane_core.specs.Machine.{Actor}
 use Rattle.xs_lane_core.specs.Sound.{IsAlone}
 use Rattle.xs_lanes.specs.Knowing.{IsWhole}
@@ -14,9 +12,12 @@ use Rattle.xs_stored.specs.Stored.{packets, held_in}
 use Rattle.xs_board.specs.declared.head.HeadRead.{HeadRead}
 use Rattle.xs_board.specs.declared.reading.Reading.TheVariants.{Good}
 use Rattle.xs_board.specs.Passes.{actor}
+use Rattle.xs_handover.specs.declared.handover.Handover.{Handover}
+use Rattle.xs_handover.specs.Passes.{IsHandPass, actor as hand_actor, stripe_count}
 use Rattle.xs_recv.specs.declared.activity.SliceCopy.{SliceCopy}
 use Rattle.xs_recv.specs.declared.activity.Kept.{Kept}
 use Rattle.xs_recv.specs.Filed.{IsReceivable}
+use Rattle.xs_recv.specs.Handed.{AreStripesBy}
 use Rattle.xs_recv.specs.Activities.{Doing, HasCopy, IsReadBy}
 
 -- the unit that was read has this header
@@ -58,9 +59,10 @@ GetsAbove units old new = IsAlone (actor old.pass) → new.starved ≡ false →
 abbrev pub GetsAll : ℕ → Doing → Doing → Type 0
 GetsAll units old new = IsAlone (actor old.pass) → new.starved ≡ false → (unit : ℕ) → unit < units → GotIfWhole (actor new.pass) unit
 
--- what is read of the copies is read by the header of this unit
-abbrev pub AreReadBy : HeadRead → List SliceCopy → Type 0
-AreReadBy r kept = (h : Header) → IsGoodHead r h → All (λ (c : SliceCopy). IsReadBy h c.slice c.bytes c.reading) kept
+-- What is read of the copies and handed of them is read by this header, and so are the stripes made.
+pub record AreReadBy (held : Held) (h : Header) (k : Kept) : Type 0 where
+  pub copies : All (λ (c : SliceCopy). IsReadBy h (hand_actor k.stripes.hand) c.slice c.bytes c.reading) k.copies.items
+  pub stripes : AreStripesBy held h (hand_actor k.stripes.hand) k.stripes.made.items
 
 -- the header that is known and this one have the same reading
 abbrev pub AreReadAlike : Option HeadRead → Option HeadRead → Type 0
@@ -70,22 +72,13 @@ AreReadAlike known head = IfSome known (λ (r : HeadRead). IfSome head (λ (s : 
 abbrev pub IsHeadOf : Held → Option HeadRead → Type 0
 IsHeadOf held head = MatchOption head (¬ IsWholeUnit held 0) (λ (r : HeadRead). HasBytes held 0 r.bytes)
 
--- What is kept at the end, where these packets are held: the header unit and all slices that are whole, and what was read of them
--- by this header, where that is trusted.
-pub record IsKeptOf (held : Held) (k : Kept) : Type 0 where
+-- What is kept at the end, where these packets are held: the header unit, all slices that are whole, each with a stripe in the
+-- handover, and the whole share of that; and what was read of them by this header, where that is trusted.
+pub record IsKeptOf (held : Held) (handover : Handover) (k : Kept) : Type 0 where
   pub head : IsHeadOf held k.head
   pub copies : All (λ (c : SliceCopy). HasBytes held (c.slice + 1) c.bytes) k.copies.items
   pub each : IsSome k.head → (slice : ℕ) → IsWholeUnit held (slice + 1) → HasCopy k.copies.items slice
-  pub trusted : k.trusted ≡ true → IfSome k.head (λ (r : HeadRead). AreReadBy r k.copies.items)
-
--- The copies of the slices below a number are in order.
-pub record AreInOrder (copies : List SliceCopy) (count : ℕ) (places : List (Option SliceCopy)) : Type 0 where
-  pub size : length places ≡ count
-  pub each : (slice : ℕ) → slice < count → HasCopy copies slice → IsSome (slice_index_or places slice None)
-  pub from : (slice : ℕ) → slice < count → IfSome (slice_index_or places slice None) (λ (c : SliceCopy). Contains copies c × (c.slice ≡ slice))
-
--- Each slice of the header has a copy at its place, and what was read of it is read by the header, where that is trusted.
-pub record AreReadable (held : Held) (h : Header) (trusted : Bool) (places : List (Option SliceCopy)) : Type 0 where
-  pub count : length places ≡ slice_count h
-  pub there : (slice : ℕ) → slice < slice_count h → IsSome (slice_index_or places slice None)
-  pub slice : (slice : ℕ) → slice < slice_count h → IfSome (slice_index_or places slice None) (λ (c : SliceCopy). (c.slice ≡ slice) × HasBytes held (slice + 1) c.bytes × (trusted ≡ true → IsReadBy h c.slice c.bytes c.reading))
+  pub pass : IsHandPass handover k.stripes.hand
+  pub alone : IsAlone (hand_actor k.stripes.hand)
+  pub room : (slice : ℕ) → IsWholeUnit held (slice + 1) → slice < stripe_count handover
+  pub trusted : k.trusted ≡ true → IfSome k.head (λ (r : HeadRead). (h : Header) → IsGoodHead r h → AreReadBy held h k)

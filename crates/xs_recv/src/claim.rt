@@ -1,21 +1,23 @@
-// An activity claims the header and slices, and keeps what it reads of them.
-ghost use Rattle.std.specs.Prelude.{◌≡◌, ◌+◌, ◌<◌, ◌^◌, true, false, length, IfOk, IfSome};
+// An activity claims the header and slices, keeps their bytes, and hands the rows of slices.
+ghost use Rattle.std.specs.Prelude.{◌≡◌, ◌+◌, ◌<◌, ◌≤◌, ◌^◌, ◌++◌, ◌∷◌, [], true, length, IfOk, IfSome, MatchResult};
 ghost use Rattle.std.specs.Option.{option_copied};
 ghost use Rattle.xs_params.specs.Accepted.{IsAccepted};
 ghost use Rattle.xs_params.specs.Geometry.{slice_count};
 ghost use Rattle.xs_lanes.specs.Knowing.{SameShare};
 ghost use Rattle.xs_board.specs.Passes.{IsBoardPass, actor, knows, unit_count};
 ghost use Rattle.xs_board.specs.Answers.{FilesNothing, GetsMore};
-ghost use Rattle.xs_recv.specs.Activities.{HasAdded, IsReadIf, IsReadable};
+ghost use Rattle.xs_handover.specs.Passes.{IsHandPass, actor as hand_actor, stripe_count};
+ghost use Rattle.xs_recv.specs.declared.activity.SliceReading.TheVariants.{Unread};
+ghost use Rattle.xs_recv.specs.Activities.{HandsBy, HandsIf, HasHand, IsReadable};
 ghost use Rattle.xs_recv.specs.Sweeping.{GetsWhole, StarvesNot};
 
 use crate::activity::{Activity, SliceCopy, SliceReading};
+use crate::exchange::Exchange;
 use std::alloc::Global;
-use xs_board::{Board, Claimed, SliceClaim};
-use xs_faults::SliceFault;
+use xs_board::{Claimed, SliceClaim};
+use xs_handover::{HandFault, HandPass, Handover};
 use xs_io::{Memory, Octets};
 use xs_params::Header;
-use xs_slice_read::read_unit;
 
 // What became of a claim.
 #[derive(Clone, Copy)]
@@ -27,74 +29,84 @@ pub(crate) enum Tried {
     Starved,
 }
 
-// Reads the unit of a slice, where there is a header.
-fn read_slice(
+// Reads a slice by the header, and hands its rows.
+fn hand_rows(
     alloc: Global,
-    header: Option<&Header>,
-    slice: u32,
-    bytes: &[u8],
+    handover: &Handover,
+    hand: &mut HandPass,
+    header: &Header,
+    copy: &SliceCopy,
 ) -> Result<SliceReading, Memory>
-    requires few { length bytes.now < 2 ^ 32 }
-    requires header { IfSome header (λ h. IsAccepted h.now × (slice < slice_count h.now)) }
-    ensures { IfOk result (IsReadIf (option_copied header.entry) slice bytes.now) }
+    requires pass { IsHandPass handover.now hand.old }
+    requires accepted { IsAccepted header.now }
+    requires there { copy.now.slice < slice_count header.now }
+    requires stripes { slice_count header.now ≤ stripe_count handover.now }
+    requires few { length copy.now.bytes < 2 ^ 32 }
+    ensures pass { IsHandPass handover.now hand.new }
+    ensures share { SameShare (hand_actor hand.old) (hand_actor hand.new) }
+    ensures hands { IfOk result (λ reading. HandsBy header.now copy.now.slice copy.now.bytes reading (hand_actor hand.old) (hand_actor hand.new)) }
 {
-    let Some(header) = header else {
-        return Ok(SliceReading::Unread);
-    };
-    match read_unit(alloc, header, slice, bytes) {
-        Ok(rows) => Ok(SliceReading::Rows(rows)),
-        Err(SliceFault::Memory) => Err(Memory),
-        Err(fault) => Ok(SliceReading::Bad(fault)),
+    let bytes = Octets::from_slice(alloc, copy.bytes.as_slice())?;
+    match handover.hand(alloc, hand, header, copy.slice, bytes) {
+        Ok(()) => Ok(SliceReading::Handed),
+        Err(HandFault::Slice(fault)) => Ok(SliceReading::Bad(fault)),
+        Err(HandFault::Memory) => Err(Memory),
     }
 }
 
-// Reads the unit of a slice, where there is a header.
-fn copy_of(
+// Reads a slice, where there is a header, and hands its rows.
+fn read_copy(
     alloc: Global,
+    handover: &Handover,
+    hand: &mut HandPass,
     header: Option<&Header>,
-    slice: u32,
-    bytes: Octets,
+    copy: SliceCopy,
 ) -> Result<SliceCopy, Memory>
-    requires few { length bytes < 2 ^ 32 }
-    requires header { IfSome header (λ h. IsAccepted h.now × (slice < slice_count h.now)) }
-    ensures slice { IfOk result (λ c. c.slice ≡ slice) }
-    ensures bytes { IfOk result (λ c. c.bytes ≡ bytes) }
-    ensures read { IfOk result (λ c. IsReadIf (option_copied header.entry) slice bytes c.reading) }
+    requires pass { IsHandPass handover.now hand.old }
+    requires header { IfSome header (λ h. IsAccepted h.now × (copy.slice < slice_count h.now)) }
+    requires stripes { IfSome header (λ h. slice_count h.now ≤ stripe_count handover.now) }
+    requires few { length copy.bytes < 2 ^ 32 }
+    requires unread { copy.reading ≡ Unread }
+    ensures pass { IsHandPass handover.now hand.new }
+    ensures share { SameShare (hand_actor hand.old) (hand_actor hand.new) }
+    ensures slice { IfOk result (λ c. c.slice ≡ copy.slice) }
+    ensures bytes { IfOk result (λ c. c.bytes ≡ copy.bytes) }
+    ensures hands { IfOk result (λ c. HandsIf (option_copied header.entry) copy.slice copy.bytes c.reading (hand_actor hand.old) (hand_actor hand.new)) }
 {
-    let reading = read_slice(alloc, header, slice, bytes.as_slice())?;
+    let Some(header) = header else {
+        return Ok(copy);
+    };
+    let reading = hand_rows(alloc, handover, hand, header, &copy)?;
     Ok(SliceCopy {
-        slice,
-        bytes,
+        slice: copy.slice,
+        bytes: copy.bytes,
         reading,
     })
 }
 
-// Puts a copy of the slice at the end, and what is read of it. False where memory is wanting.
-fn add_copy(kept: &mut Vec<SliceCopy>, header: Option<&Header>, slice: u32, bytes: Octets) -> bool
-    requires few { length bytes < 2 ^ 32 }
-    requires header { IfSome header (λ h. IsAccepted h.now × (slice < slice_count h.now)) }
-    ensures added { result ≡ true → HasAdded (option_copied header.entry) slice bytes kept.old.items kept.new.items }
-    ensures lost { result ≡ false → kept.new.items ≡ kept.old.items }
+// Puts a copy at the end. False where memory is wanting.
+fn add_copy(kept: &mut Vec<SliceCopy>, copy: Result<SliceCopy, Memory>) -> bool
+    ensures { result ≡ true → MatchResult copy (λ c. kept.new.items ≡ kept.old.items ++ c ∷ []) (λ _. ⊥) }
 {
-    let alloc = *kept.allocator();
-    let Ok(copy) = copy_of(alloc, header, slice, bytes) else {
-        return false;
-    };
-    kept.push(copy).is_ok()
+    match copy {
+        Ok(copy) => kept.push(copy).is_ok(),
+        Err(Memory) => false,
+    }
 }
 
 impl Activity {
     // Claims the header unit, and keeps what is read of it.
-    pub(crate) fn try_header(&mut self, board: &Board) -> Tried
-        requires pass { IsBoardPass board.now self.old.pass }
-        ensures pass { IsBoardPass board.now self.new.pass }
+    pub(crate) fn try_header(&mut self, exchange: &Exchange) -> Tried
+        requires pass { IsBoardPass exchange.now.board self.old.pass }
+        ensures pass { IsBoardPass exchange.now.board self.new.pass }
         ensures share { SameShare (actor self.old.pass) (actor self.new.pass) }
         ensures files { FilesNothing (actor self.old.pass) (actor self.new.pass) }
         ensures grows { GetsMore (actor self.old.pass) (actor self.new.pass) }
+        ensures hand { self.new.hand ≡ self.old.hand }
         ensures starved { StarvesNot self.old self.new }
         ensures swept { GetsWhole 0 self.old self.new }
     {
-        match board.claim_header(self.alloc, &mut self.pass) {
+        match exchange.board.claim_header(self.alloc, &mut self.pass) {
             Ok(Claimed::Got(read)) => {
                 self.head = Some(read);
                 Tried::Got
@@ -108,22 +120,40 @@ impl Activity {
         }
     }
 
-    // Claims a slice, keeps a copy of its bytes, and reads them where there is a header.
-    pub(crate) fn try_slice(&mut self, board: &Board, header: Option<&Header>, slice: u32) -> Tried
-        requires pass { IsBoardPass board.now self.old.pass }
-        requires slice { slice + 1 < unit_count board.now }
+    // Claims a slice, keeps a copy of its bytes, and hands its rows where there is a header.
+    pub(crate) fn try_slice(
+        &mut self,
+        exchange: &Exchange,
+        header: Option<&Header>,
+        slice: u32,
+    ) -> Tried
+        requires pass { IsBoardPass exchange.now.board self.old.pass }
+        requires hand { IsHandPass exchange.now.handover self.old.hand }
+        requires slice { slice + 1 < unit_count exchange.now.board }
         requires header { IfSome header (λ h. IsReadable (knows self.old.pass) h.now slice) }
-        ensures pass { IsBoardPass board.now self.new.pass }
+        requires stripes { IfSome header (λ h. slice_count h.now ≤ stripe_count exchange.now.handover) }
+        ensures pass { IsBoardPass exchange.now.board self.new.pass }
         ensures share { SameShare (actor self.old.pass) (actor self.new.pass) }
         ensures files { FilesNothing (actor self.old.pass) (actor self.new.pass) }
         ensures knows { knows self.new.pass ≡ knows self.old.pass }
         ensures grows { GetsMore (actor self.old.pass) (actor self.new.pass) }
+        ensures hand { HasHand exchange.now.handover self.old.hand self.new.hand }
         ensures starved { StarvesNot self.old self.new }
         ensures swept { GetsWhole (slice + 1) self.old self.new }
     {
-        match board.claim_slice(self.alloc, &mut self.pass, slice) {
+        match exchange
+            .board
+            .claim_slice(self.alloc, &mut self.pass, slice)
+        {
             Ok(SliceClaim::Got(bytes)) => {
-                if add_copy(&mut self.kept, header, slice, bytes) {
+                let handover = &exchange.handover;
+                let copy = SliceCopy {
+                    slice,
+                    bytes,
+                    reading: SliceReading::Unread,
+                };
+                let read = read_copy(self.alloc, handover, &mut self.hand, header, copy);
+                if add_copy(&mut self.kept, read) {
                     return Tried::Got;
                 }
                 self.starved = true;

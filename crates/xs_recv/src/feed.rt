@@ -48,6 +48,7 @@ impl Activity {
         ensures share { SameShare (actor self.old.pass) (actor self.new.pass) }
         ensures files { FilesOf self.old.part (actor self.old.pass) (actor self.new.pass) }
         ensures each { All (IsFiled (actor self.new.pass)) self.old.part }
+        ensures hand { self.new.hand ≡ self.old.hand }
     {
         let part = mem::replace(&mut self.part, Vec::new(self.alloc));
         file_all(board, &mut self.pass, part);

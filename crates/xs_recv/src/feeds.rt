@@ -1,7 +1,7 @@
 // The packets of the parts, and their units.
 ghost use Rattle.std.specs.Prelude.{◌≡◌, ◌+◌, ◌<◌, ◌≤◌, ◌++◌, ◌∷◌, [], All, length, IfOk, OnOk};
 ghost use Rattle.xs_recv.specs.Received.{offers_of_parts};
-ghost use Rattle.xs_recv.specs.Filing.{AreOf, fed};
+ghost use Rattle.xs_recv.specs.Filing.{AreOfUnits, fed};
 
 use crate::activity::Feed;
 use std::alloc::Global;
@@ -33,7 +33,7 @@ fn push_feed(feeds: &mut Vec<Feed>, feed: Feed) -> Result<(), Memory>
 pub(crate) fn feeds_of(alloc: Global, parts: Parts) -> Result<(Vec<Feed>, u32), Memory>
     requires { length parts ≤ 8 }
     ensures all { IfOk result (λ r. fed r.0.items ≡ offers_of_parts parts) }
-    ensures units { IfOk result (λ r. AreOf r.1 r.0.items) }
+    ensures units { IfOk result (λ r. AreOfUnits r.1 r.0.items) }
     ensures some { IfOk result (λ r. 1 ≤ r.1) }
     ensures few { IfOk result (λ r. r.1 ≤ 2048) }
 {

@@ -1,6 +1,9 @@
 // What is received of a picture.
+ghost use Rattle.std.specs.Prelude.{◌≡◌};
+
 use xs_board::ClosedBoard;
 use xs_faults::{HeadFault, SliceFault};
+use xs_handover::ClosedHandover;
 use xs_io::{Memory, Numbers};
 use xs_params::Planes;
 
@@ -26,11 +29,12 @@ pub enum Received {
     Damaged(Damage),
 }
 
-/// What is received of a picture, and the board on which its packets were filed.
+/// What is received of a picture, the board on which its packets were filed, and the handover of which its stripes were made.
 #[derive(Drop)]
 pub struct Reception {
     pub received: Received,
     pub board: ClosedBoard,
+    pub stripes: ClosedHandover,
 }
 
 // Why no picture is given: what is received in its place, or want of memory.
@@ -49,4 +53,11 @@ impl From<Memory> for Stop {
     fn from(_memory: Memory) -> Stop {
         Stop::Memory
     }
+}
+
+// The answer that a picture is damaged.
+pub(crate) fn damaged(damage: Damage) -> Stop
+    ensures { result ≡ Stop.Answer (Received.Damaged damage) }
+{
+    Stop::Answer(Received::Damaged(damage))
 }

@@ -3,24 +3,26 @@ ghost use Rattle.std.specs.Prelude.{◌<◌, ◌≤◌, ◌^◌, length, IfOk};
 ghost use Rattle.xs_lanes.specs.Settled.{IsDone};
 ghost use Rattle.xs_capture.specs.Selection.{IsSelection};
 ghost use Rattle.xs_stored.specs.Stored.{held_in, packets};
-ghost use Rattle.xs_recv.specs.Received.{IsReceived, offered_bytes, offers_of_parts};
+ghost use Rattle.xs_handover.specs.Blocks.{blocks};
+ghost use Rattle.xs_recv.specs.Received.{IsReceived, IsSynthesised, offered_bytes, offers_of_parts};
 ghost use Rattle.xs_recv.specs.Sweeping.{GotWholes, IsKeptOf, IsSettled};
 
-use crate::activity::{Activity, Role, SweepEnd, Team};
+use crate::activity::{Activity, Passes, Role, SweepEnd, Team};
 use crate::answer::answer;
+use crate::exchange::Exchange;
 use crate::feeds::feeds_of;
-use crate::received::{Received, Reception, Stop};
+use crate::received::Reception;
 use crate::team::run_all;
 use std::alloc::Global;
 use std::thread::Threads;
-use xs_board::Board;
 use xs_capture::Parts;
 use xs_io::{Gate, Memory};
 
 /// Receives a picture of its packets, which come in any order, and each as often as one likes: 'RTP packets and captures'. All
 /// are of one timestamp. Where two differ at one unit and place, one of them is taken. A thread for each part files its packets
-/// on a board, and so many workers claim the slices that are whole there, and read them; the caller does what they leave. Neither
-/// the number of threads nor the gate has an effect on the answer.
+/// on a board; so many workers claim the slices that are whole there, hand their rows over, and make the samples of stripes that
+/// are whole in the handover; the caller does what they leave, and copies the lines. Neither the number of threads nor the gate
+/// decides more than which of two such packets is taken. Where memory is wanting, the packets are given up.
 pub fn receive_picture<T: Threads + Sync, G: Gate>(
     threads: &T,
     alloc: Global,
@@ -34,16 +36,10 @@ pub fn receive_picture<T: Threads + Sync, G: Gate>(
     ensures received { IfOk result (λ r. IsReceived (held_in r.board.actor.stored) r.received) }
     ensures done { IfOk result (λ r. IsDone packets r.board.actor) }
     ensures got { IfOk result (λ r. GotWholes r.board.actor) }
+    ensures once { IfOk result (λ r. IsDone blocks r.stripes.actor) }
+    ensures synthesised { IfOk result (λ r. IsSynthesised (held_in r.board.actor.stored) r.received r.stripes.actor) }
 {
-    let SweepEnd { board, kept } = collect(threads, alloc, parts, workers, gate)?;
-    match answer(alloc, &board, kept) {
-        Ok(picture) => Ok(Reception {
-            received: Received::Picture(picture),
-            board,
-        }),
-        Err(Stop::Answer(received)) => Ok(Reception { received, board }),
-        Err(Stop::Memory) => Err(Memory),
-    }
+    answer(alloc, collect(threads, alloc, parts, workers, gate)?)
 }
 
 // Files all packets, and claims all units that are whole.
@@ -56,20 +52,25 @@ fn collect<T: Threads + Sync, G: Gate>(
 ) -> Result<SweepEnd, Memory>
     requires parts { length parts ≤ 8 }
     requires bytes { offered_bytes (offers_of_parts parts) < 2 ^ 32 }
-    ensures kept { IfOk result (λ e. IsKeptOf (held_in e.board.actor.stored) e.kept) }
+    ensures kept { IfOk result (λ e. IsKeptOf (held_in e.board.actor.stored) e.handover e.kept) }
     ensures settled { IfOk result (λ e. IsSettled (offers_of_parts parts) e.board.actor) }
 {
     let (feeds, units) = feeds_of(alloc, parts)?;
-    let (board, pass) = Board::new(alloc, units)?;
-    let mut team = Team::new(alloc, &board, pass);
-    team.fork(&board, feeds, workers)?;
-    let Team { pass, mut others } = team;
-    run_all(threads, &board, gate, others.as_mut_slice());
-    let mut caller = Activity::new(alloc, pass, Vec::new(alloc), Role::Feeder);
-    caller.gather(&board, others);
-    caller.sweep(&board);
+    let (exchange, passes) = Exchange::new(alloc, units)?;
+    let mut team = Team::new(alloc, &exchange, passes);
+    team.fork(&exchange, feeds, workers)?;
+    let Team {
+        pass,
+        hand,
+        mut others,
+    } = team;
+    run_all(threads, &exchange, gate, others.as_mut_slice());
+    let passes = Passes { pass, hand };
+    let mut caller = Activity::new(alloc, passes, Vec::new(alloc), Role::Feeder);
+    caller.gather(&exchange, others);
+    caller.sweep(&exchange);
     if caller.is_starved() {
         return Err(Memory);
     }
-    Ok(caller.end(board))
+    Ok(caller.end(exchange))
 }

@@ -6,38 +6,45 @@ ghost use Rattle.xs_lanes.specs.Settled.{IsDone};
 ghost use Rattle.xs_stored.specs.Stored.{held_in, packets};
 ghost use Rattle.xs_board.specs.Passes.{IsBoardPass, actor, knows, unit_count};
 ghost use Rattle.xs_board.specs.Answers.{FilesNothing, GetsMore};
+ghost use Rattle.xs_handover.specs.Passes.{IsHandPass, actor as hand_actor};
+ghost use Rattle.xs_recv.specs.Activities.{HasHand};
 ghost use Rattle.xs_recv.specs.Sweeping.{AreReadAlike, GetsAbove, GetsAll, GotIfWhole, IsKeptOf, StarvesNot};
 
-use crate::activity::{Activity, Kept, SweepEnd};
+use crate::activity::{Activity, Kept, Stripes, SweepEnd};
+use crate::exchange::Exchange;
 use xs_board::{Board, BoardPass, HeadRead};
 
 impl Activity {
     // Claims each slice that is left, and reads none.
-    fn sweep_slices(&mut self, board: &Board)
-        requires pass { IsBoardPass board.now self.old.pass }
-        ensures pass { IsBoardPass board.now self.new.pass }
+    fn sweep_slices(&mut self, exchange: &Exchange)
+        requires pass { IsBoardPass exchange.now.board self.old.pass }
+        requires hand { IsHandPass exchange.now.handover self.old.hand }
+        ensures pass { IsBoardPass exchange.now.board self.new.pass }
         ensures share { SameShare (actor self.old.pass) (actor self.new.pass) }
         ensures files { FilesNothing (actor self.old.pass) (actor self.new.pass) }
         ensures grows { GetsMore (actor self.old.pass) (actor self.new.pass) }
+        ensures hand { HasHand exchange.now.handover self.old.hand self.new.hand }
         ensures starved { StarvesNot self.old self.new }
-        ensures all { GetsAbove (unit_count board.now) self.old self.new }
+        ensures all { GetsAbove (unit_count exchange.now.board) self.old self.new }
     {
-        let slices = board.units() - 1;
+        let slices = exchange.board.units() - 1;
         'sweeping: for slice in 0..slices {
-            self.try_slice(board, None, slice);
+            self.try_slice(exchange, None, slice);
         }
     }
 
     // Claims the header unit and each slice that is left, and reads no slice.
-    pub(crate) fn sweep(&mut self, board: &Board)
-        requires pass { IsBoardPass board.now self.old.pass }
-        ensures pass { IsBoardPass board.now self.new.pass }
+    pub(crate) fn sweep(&mut self, exchange: &Exchange)
+        requires pass { IsBoardPass exchange.now.board self.old.pass }
+        requires hand { IsHandPass exchange.now.handover self.old.hand }
+        ensures pass { IsBoardPass exchange.now.board self.new.pass }
         ensures share { SameShare (actor self.old.pass) (actor self.new.pass) }
         ensures files { FilesNothing (actor self.old.pass) (actor self.new.pass) }
-        ensures all { GetsAll (unit_count board.now) self.old self.new }
+        ensures hand { HasHand exchange.now.handover self.old.hand self.new.hand }
+        ensures all { GetsAll (unit_count exchange.now.board) self.old self.new }
     {
-        self.try_header(board);
-        self.sweep_slices(board);
+        self.try_header(exchange);
+        self.sweep_slices(exchange);
     }
 
     // Whether memory was wanting.
@@ -48,33 +55,44 @@ impl Activity {
     }
 
     // Closes the board.
-    pub(crate) fn end(self, board: Board) -> SweepEnd
-        requires pass { IsBoardPass board self.pass }
+    pub(crate) fn end(self, exchange: Exchange) -> SweepEnd
+        requires pass { IsBoardPass exchange.board self.pass }
         requires alone { IsAlone (actor self.pass) }
+        requires hand { IsHandPass exchange.handover self.hand }
+        requires single { IsAlone (hand_actor self.hand) }
         requires sated { self.starved ≡ false }
-        requires all { (unit : ℕ) → unit < unit_count board → GotIfWhole (actor self.pass) unit }
-        ensures kept { IsKeptOf (held_in result.board.actor.stored) result.kept }
+        requires all { (unit : ℕ) → unit < unit_count exchange.board → GotIfWhole (actor self.pass) unit }
+        ensures kept { IsKeptOf (held_in result.board.actor.stored) result.handover result.kept }
         ensures actor { result.board.actor ≡ actor self.pass }
         ensures done { IsDone packets (actor self.pass) }
     {
         let Activity {
             alloc: _,
             mut pass,
+            hand,
             part,
             role: _,
             head,
             kept,
+            stripes: made,
             starved: _,
         } = self;
+        let Exchange {
+            board,
+            handover,
+            stripes: _,
+        } = exchange;
         drop(part);
         let trusted = is_shown(&board, &mut pass, &head);
         let kept = Kept {
             head,
             copies: kept,
+            stripes: Stripes { hand, made },
             trusted,
         };
         SweepEnd {
             board: board.close(pass),
+            handover,
             kept,
         }
     }

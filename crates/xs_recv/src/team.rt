@@ -3,30 +3,35 @@ ghost use Rattle.std.specs.Prelude.{◌≡◌, ◌<◌, ◌++◌, ◌∷◌, [],
 ghost use Rattle.xs_lane_core.specs.Machine.{newcomer};
 ghost use Rattle.xs_capture.specs.Offer.{Offer};
 ghost use Rattle.xs_board.specs.Passes.{IsBoardPass, actor, unit_count};
-ghost use Rattle.xs_recv.specs.Filing.{AreForked, AreOf, HasRun, IsUnusedBoardPass, fed};
+ghost use Rattle.xs_handover.specs.Passes.{IsHandPass, actor as hand_actor};
+ghost use Rattle.xs_recv.specs.Filing.{AreForked, AreOfUnits, HandsForked, HasRun, IsUnusedPass, fed};
 
-use crate::activity::{Activity, Feed, Role, Team};
+use crate::activity::{Activity, Feed, Passes, Role, Team};
+use crate::exchange::Exchange;
 use std::alloc::Global;
 use std::thread;
 use std::thread::Threads;
-use xs_board::{Board, BoardPass};
 use xs_capture::Packet;
 use xs_io::{Gate, Memory};
 
 impl Activity {
     // One that did nothing.
-    pub(crate) fn new(alloc: Global, pass: BoardPass, part: Vec<Packet>, role: Role) -> Activity
-        requires { IsUnusedBoardPass (actor pass) }
-        ensures pass { result.pass ≡ pass }
+    pub(crate) fn new(alloc: Global, passes: Passes, part: Vec<Packet>, role: Role) -> Activity
+        requires pass { IsUnusedPass (actor passes.pass) }
+        requires hand { IsUnusedPass (hand_actor passes.hand) }
+        ensures pass { result.pass ≡ passes.pass }
+        ensures hand { result.hand ≡ passes.hand }
         ensures part { result.part ≡ part.items }
     {
         Activity {
             alloc,
-            pass,
+            pass: passes.pass,
+            hand: passes.hand,
             part,
             role,
             head: None,
             kept: Vec::new(alloc),
+            stripes: Vec::new(alloc),
             starved: false,
         }
     }
@@ -41,40 +46,49 @@ fn push_activity(others: &mut Vec<Activity>, activity: Activity) -> Result<(), M
 
 impl Team {
     // One activity more.
-    fn add(&mut self, board: &Board, part: Vec<Packet>, role: Role) -> Result<(), Memory>
-        requires pass { IsBoardPass board.now self.old.pass }
-        requires units { All (λ p. p.unit < unit_count board.now) part.items }
-        ensures pass { IsBoardPass board.now self.new.pass }
-        ensures forked { OnOk result ((offers : List Offer) → AreForked board.now offers self.old.pass self.old.others.items → AreForked board.now (part.items ++ offers) self.new.pass self.new.others.items) }
+    fn add(&mut self, exchange: &Exchange, part: Vec<Packet>, role: Role) -> Result<(), Memory>
+        requires pass { IsBoardPass exchange.now.board self.old.pass }
+        requires hands { HandsForked exchange.now.handover self.old.hand self.old.others.items }
+        requires units { All (λ p. p.unit < unit_count exchange.now.board) part.items }
+        ensures pass { IsBoardPass exchange.now.board self.new.pass }
+        ensures hands { OnOk result (HandsForked exchange.now.handover self.new.hand self.new.others.items) }
+        ensures forked { OnOk result ((offers : List Offer) → AreForked exchange.now.board offers self.old.pass self.old.others.items → AreForked exchange.now.board (part.items ++ offers) self.new.pass self.new.others.items) }
     {
         let alloc = *self.others.allocator();
-        let pass = board.split(&mut self.pass);
-        let activity = Activity::new(alloc, pass, part, role);
+        let passes = Passes {
+            pass: exchange.board.split(&mut self.pass),
+            hand: exchange.handover.split(&mut self.hand),
+        };
+        let activity = Activity::new(alloc, passes, part, role);
         push_activity(&mut self.others, activity)
     }
 
     // One activity for each part.
-    fn add_feeders(&mut self, board: &Board, mut feeds: Vec<Feed>) -> Result<(), Memory>
-        requires forked { AreForked board.now [] self.old.pass self.old.others.items }
-        requires units { AreOf (unit_count board.now) feeds.items }
-        ensures pass { IsBoardPass board.now self.new.pass }
-        ensures forked { OnOk result (AreForked board.now (fed feeds.items) self.new.pass self.new.others.items) }
+    fn add_feeders(&mut self, exchange: &Exchange, mut feeds: Vec<Feed>) -> Result<(), Memory>
+        requires forked { AreForked exchange.now.board [] self.old.pass self.old.others.items }
+        requires hands { HandsForked exchange.now.handover self.old.hand self.old.others.items }
+        requires units { AreOfUnits (unit_count exchange.now.board) feeds.items }
+        ensures pass { IsBoardPass exchange.now.board self.new.pass }
+        ensures forked { OnOk result (AreForked exchange.now.board (fed feeds.items) self.new.pass self.new.others.items) }
+        ensures hands { OnOk result (HandsForked exchange.now.handover self.new.hand self.new.others.items) }
     {
         'feeding: while let Some(feed) = feeds.pop() {
-            self.add(board, feed.part, Role::Feeder)?;
+            self.add(exchange, feed.part, Role::Feeder)?;
         }
         Ok(())
     }
 
     // So many activities that work.
-    fn add_workers(&mut self, board: &Board, workers: u32) -> Result<(), Memory>
-        requires pass { IsBoardPass board.now self.old.pass }
-        ensures pass { IsBoardPass board.now self.new.pass }
-        ensures forked { OnOk result ((offers : List Offer) → AreForked board.now offers self.old.pass self.old.others.items → AreForked board.now offers self.new.pass self.new.others.items) }
+    fn add_workers(&mut self, exchange: &Exchange, workers: u32) -> Result<(), Memory>
+        requires pass { IsBoardPass exchange.now.board self.old.pass }
+        requires hands { HandsForked exchange.now.handover self.old.hand self.old.others.items }
+        ensures pass { IsBoardPass exchange.now.board self.new.pass }
+        ensures forked { OnOk result ((offers : List Offer) → AreForked exchange.now.board offers self.old.pass self.old.others.items → AreForked exchange.now.board offers self.new.pass self.new.others.items) }
+        ensures hands { OnOk result (HandsForked exchange.now.handover self.new.hand self.new.others.items) }
     {
         let alloc = *self.others.allocator();
         'working: for number in 0..workers {
-            self.add(board, Vec::new(alloc), Role::Worker(number))?;
+            self.add(exchange, Vec::new(alloc), Role::Worker(number))?;
         }
         Ok(())
     }
@@ -82,26 +96,33 @@ impl Team {
     // One activity for each part, and then so many that work.
     pub(crate) fn fork(
         &mut self,
-        board: &Board,
+        exchange: &Exchange,
         feeds: Vec<Feed>,
         workers: u32,
     ) -> Result<(), Memory>
-        requires forked { AreForked board.now [] self.old.pass self.old.others.items }
-        requires units { AreOf (unit_count board.now) feeds.items }
-        ensures { OnOk result (AreForked board.now (fed feeds.items) self.new.pass self.new.others.items) }
+        requires forked { AreForked exchange.now.board [] self.old.pass self.old.others.items }
+        requires hands { HandsForked exchange.now.handover self.old.hand self.old.others.items }
+        requires units { AreOfUnits (unit_count exchange.now.board) feeds.items }
+        ensures forked { OnOk result (AreForked exchange.now.board (fed feeds.items) self.new.pass self.new.others.items) }
+        ensures hands { OnOk result (HandsForked exchange.now.handover self.new.hand self.new.others.items) }
     {
-        self.add_feeders(board, feeds)?;
-        self.add_workers(board, workers)
+        self.add_feeders(exchange, feeds)?;
+        self.add_workers(exchange, workers)
     }
 
     // No activity yet.
-    pub(crate) fn new(alloc: Global, board: &Board, pass: BoardPass) -> Team
-        requires pass { IsBoardPass board.now pass }
-        requires first { actor pass ≡ newcomer }
-        ensures { AreForked board.now [] result.pass result.others.items }
+    pub(crate) fn new(alloc: Global, exchange: &Exchange, passes: Passes) -> Team
+        requires pass { IsBoardPass exchange.now.board passes.pass }
+        requires first { actor passes.pass ≡ newcomer }
+        requires hand { IsHandPass exchange.now.handover passes.hand }
+        requires fresh { hand_actor passes.hand ≡ newcomer }
+        ensures forked { AreForked exchange.now.board [] result.pass result.others.items }
+        ensures hands { HandsForked exchange.now.handover result.hand result.others.items }
     {
+        let Passes { pass, hand } = passes;
         Team {
             pass,
+            hand,
             others: Vec::new(alloc),
         }
     }
@@ -110,13 +131,14 @@ impl Team {
 // Each activity runs in a thread of its own, where one can be made.
 pub(crate) fn run_all<T: Threads + Sync, G: Gate>(
     threads: &T,
-    board: &Board,
+    exchange: &Exchange,
     gate: &G,
     activities: &mut [Activity],
 )
-    requires passes { All (λ a. IsBoardPass board.now a.pass) activities.old }
-    requires units { All (λ a. All (λ (p : Offer). p.unit < unit_count board.now) a.part) activities.old }
-    ensures { (i : ℕ) (d : _) → i < length activities.old → HasRun board.now (slice_index_or activities.old i d) (slice_index_or activities.new i d) }
+    requires passes { All (λ a. IsBoardPass exchange.now.board a.pass) activities.old }
+    requires hands { All (λ a. IsHandPass exchange.now.handover a.hand) activities.old }
+    requires units { All (λ a. All (λ (p : Offer). p.unit < unit_count exchange.now.board) a.part) activities.old }
+    ensures { (i : ℕ) (d : _) → i < length activities.old → HasRun exchange.now (slice_index_or activities.old i d) (slice_index_or activities.new i d) }
 {
     if activities.is_empty() {
         return;
@@ -127,8 +149,8 @@ pub(crate) fn run_all<T: Threads + Sync, G: Gate>(
         activities,
         count,
         &|_: usize, activity: &mut Activity|
-            requires { IsBoardPass board.now activity.old.pass × All (λ (p : Offer). p.unit < unit_count board.now) activity.old.part }
-            ensures { HasRun board.entry.now activity.old activity.new }
-        { activity.run(board, gate) },
+            requires { IsBoardPass exchange.now.board activity.old.pass × IsHandPass exchange.now.handover activity.old.hand × All (λ (p : Offer). p.unit < unit_count exchange.now.board) activity.old.part }
+            ensures { HasRun exchange.entry.now activity.old activity.new }
+        { activity.run(exchange, gate) },
     );
 }

@@ -6,14 +6,14 @@ use xs_io::Gate;
 // After so many scans that claimed nothing a worker ends.
 const TURNS: u32 = 4096;
 
-// So many scans are enough: each of the others claims a unit.
-pub(crate) const SCANS: u32 = 6144;
+// So many scans are enough: each but those 4096 claims the header unit, the unit of a slice or a stripe.
+pub(crate) const SCANS: u32 = 8192;
 
 // A picture has at most so many slices that are sent.
 const SLICES: usize = 2047;
 
 // The number of a worker, how many of its scans claimed nothing, how many slices it got, whether its scan claimed nothing so
-// far, and met a unit for whose packets or reading others are needed, and which slices it knows to be claimed.
+// far, and met a unit or a stripe for which others are needed, and which slices and which stripes it knows to be claimed.
 #[derive(Drop)]
 pub(crate) struct Worker {
     number: u32,
@@ -22,6 +22,7 @@ pub(crate) struct Worker {
     idle: bool,
     waits: bool,
     done: [bool; SLICES],
+    made: [bool; SLICES],
 }
 
 impl Worker {
@@ -33,6 +34,7 @@ impl Worker {
             idle: true,
             waits: false,
             done: [false; SLICES],
+            made: [false; SLICES],
         }
     }
 
@@ -54,7 +56,19 @@ impl Worker {
         }
     }
 
-    // Notes what became of the claim of a unit. False where memory was wanting.
+    // Whether the stripe of the slice is known to be claimed.
+    pub(crate) fn is_made(&self, slice: u32) -> bool {
+        (slice as usize) < SLICES && self.made[slice as usize]
+    }
+
+    // From now on the stripe of the slice is known to be claimed.
+    fn mark_made(&mut self, slice: u32) {
+        if (slice as usize) < SLICES {
+            self.made[slice as usize] = true;
+        }
+    }
+
+    // Notes what became of the claim of the header unit. False where memory was wanting.
     pub(crate) fn goes_on(&mut self, tried: Tried) -> bool {
         match tried {
             Tried::Got => {
@@ -80,6 +94,26 @@ impl Worker {
             }
             Tried::Gone => {
                 self.mark(slice);
+                true
+            }
+            Tried::NotWhole => {
+                self.waits = true;
+                true
+            }
+            Tried::Starved => false,
+        }
+    }
+
+    // Notes what became of the claim of a stripe. False where memory was wanting.
+    pub(crate) fn notes_stripe(&mut self, slice: u32, tried: Tried) -> bool {
+        match tried {
+            Tried::Got => {
+                self.mark_made(slice);
+                self.idle = false;
+                true
+            }
+            Tried::Gone => {
+                self.mark_made(slice);
                 true
             }
             Tried::NotWhole => {

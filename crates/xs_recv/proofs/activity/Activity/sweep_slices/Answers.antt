@@ -6,6 +6,7 @@ use Rattle.xs_recv.proofs.activity.Activity.sweep_slices.Goals as goal
 pub sweeping-init : goal.sweeping-init
 sweeping-init c = record {
   pass = c.requires.pass;
+  hand = record { pass = c.requires.hand; share = (refl, refl) };
   share = (refl, refl);
   files = record { stored = refl; repeated = refl };
   grows = more_none (actor c.args.self.now.pass);
@@ -16,6 +17,7 @@ sweeping-init c = record {
 pub sweeping-preserved : goal.sweeping-preserved
 sweeping-preserved c = let i = c.sweeping.invariant in record {
   pass = c.try_slice.ensures.pass;
+  hand = record { pass = c.try_slice.ensures.hand.pass; share = (c.try_slice.ensures.hand.share.0 ∙ i.hand.share.0, c.try_slice.ensures.hand.share.1 ∙ i.hand.share.1) };
   share = (c.try_slice.ensures.share.0 ∙ i.share.0, c.try_slice.ensures.share.1 ∙ i.share.1);
   files = record { stored = c.try_slice.ensures.files.stored ∙ i.files.stored; repeated = c.try_slice.ensures.files.repeated ∙ i.files.repeated };
   grows = more_again (actor c.args.self.now.pass) (actor c.sweeping.self.pass) (actor c.try_slice.new.self.pass) i.grows c.try_slice.ensures.grows;

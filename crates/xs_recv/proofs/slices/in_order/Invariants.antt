@@ -1,5 +1,5 @@
-use Rattle.xs_recv.specs.Sweeping.{AreInOrder}
-use Rattle.xs_recv.proofs.answer.in_order.Given as goal
+use Rattle.xs_recv.specs.Reading.{AreInOrder}
+use Rattle.xs_recv.proofs.slices.in_order.Given as goal
 
 abbrev pub invariant-placing : goal.invariant-placing
 invariant-placing l = AreInOrder l.yielded l.count l.places.items

@@ -2,9 +2,9 @@ use Rattle.std.proofs.Common.{◌≡◌, sym, subst, ◌∙◌}
 use Rattle.std.proofs.lemmas.List.{map-id}
 use Rattle.std.proofs.lemmas.Iterator.Adapters.{YieldsList-from_vec}
 use Rattle.std.proofs.lemmas.Iterator.Consumers.{YieldsList-end}
-use Rattle.xs_recv.specs.Sweeping.{AreInOrder}
+use Rattle.xs_recv.specs.Reading.{AreInOrder}
 use Rattle.xs_recv.proofs.InOrder.{order_more}
-use Rattle.xs_recv.proofs.answer.in_order.Goals as goal
+use Rattle.xs_recv.proofs.slices.in_order.Goals as goal
 
 pub placing-preserved : goal.placing-preserved
 placing-preserved c =

@@ -1,6 +1,6 @@
 use Rattle.std.proofs.Common.{arith, ◌≡◌, length}
 use Rattle.xs_recv.proofs.InOrder.{order_none}
-use Rattle.xs_recv.proofs.answer.no_copies.Goals as goal
+use Rattle.xs_recv.proofs.slices.no_copies.Goals as goal
 
 pub returns : goal.returns
 returns c =
