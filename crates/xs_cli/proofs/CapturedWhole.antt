@@ -19,7 +19,7 @@ use Rattle.xs_recv.specs.declared.received.Received.TheVariants as received
 use Rattle.xs_endings.specs.Said.{Said, only_note, status_of, status_of_notes}
 use Rattle.xs_words.specs.declared.command.Form.TheVariants.{Rtp, Pcap}
 use Rattle.xs_cli.specs.Captured.{AreSaidOf, IsCaptured, IsFileAnswer, IsFileUnless, IsReceivedOf, IsSaidOfSorted, IsUnwrappedAnswer, also_stepped, nothing_said, said_of, said_then, stepped_said}
-use Rattle.xs_cli.specs.Decoded.{IsDecoded, input_limit}
+use Rattle.xs_cli.specs.Decoded.{IsDecodeAnswer, input_limit}
 use Rattle.xs_cli.specs.Good.{AreWhole, IsGoodCapture, IsGoodFile}
 use Rattle.xs_cli.proofs.CapturedOne.{one_said}
 use Rattle.xs_cli.proofs.CapturedSaid.{status_on, stepped_status}
@@ -65,7 +65,7 @@ captured_status input good said captured =
     let known = captured_by good.packets input good.timestamps pictures.0 good.whole good.listed good.most pictures.1 in
     ap status_of (one_said good.packets input said _ good.whole good.bytes good.agree captured known) ∙ harmless (stepped_of good.packets) pictures.0 pictures.2
 
-pub captured_good : (input : List ℕ) → IsGoodCapture input → (said : Said) → IsDecoded Rtp input said → status_of said ≡ 0
+pub captured_good : (input : List ℕ) → IsGoodCapture input → (said : Said) → IsDecodeAnswer Rtp input said → status_of said ≡ 0
 captured_good input good said answer =
     let test : nat_lt input_limit (length input) ≡ false = (let within = good.within in grind (arith, nat_tests)) in
     captured_status input good said (subst (λ (b : Bool). MatchBool b (said ≡ only_note (note.InputLimit input_limit)) (IsCaptured input said)) test answer)
@@ -85,7 +85,7 @@ after_status records input (Err (sort.Cut place)) said sorts is = (said, record 
 after_status records input (Err (sort.Pictures count)) said sorts is = (said, record { sorted = Err (sort.Pictures count); sorts = sorts; answer = is }, refl)
 after_status records input (Err sort.Memory) said sorts is = absurd is
 
-pub file_good : (port : ℕ) (input : List ℕ) → IsGoodFile port input → (said : Said) → IsDecoded (Pcap port) input said → status_of said ≡ 0
+pub file_good : (port : ℕ) (input : List ℕ) → IsGoodFile port input → (said : Said) → IsDecodeAnswer (Pcap port) input said → status_of said ≡ 0
 file_good port input good said answer =
     let test : nat_lt input_limit (length input) ≡ false = (let within = good.within in grind (arith, nat_tests)) in
     let unless = subst (λ (b : Bool). MatchBool b (said ≡ only_note (note.InputLimit input_limit)) (IsFileAnswer port input said)) test answer in

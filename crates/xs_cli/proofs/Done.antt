@@ -36,7 +36,7 @@ use Rattle.xs_words.specs.Refusal.{refusal_of, refused_settings}
 use Rattle.xs_words.specs.Words.{bad_place, word_in}
 use Rattle.xs_words.specs.Command.{command_of, form_of, given_number, settings_of, trial_settings_of}
 use Rattle.xs_cli.specs.Answer.{IsAnswer, IsAnswerUnless, IsCommandAnswer, IsCommandStanding, IsStanding, refusal_note}
-use Rattle.xs_cli.specs.Decoded.{IsDecodeTurn, IsDecoded, IsFormAnswer, input_limit}
+use Rattle.xs_cli.specs.Decoded.{IsDecodeTurn, IsDecodeAnswer, IsFormAnswer, input_limit}
 use Rattle.xs_cli.specs.Steps.{AreStreamsDecoded, IsCommandStop, IsDone, IsExecuted, IsOwnStop}
 use Rattle.xs_cli.proofs.Inputs.{front_of, no_bytes, over, used_up, was_some, was_whole}
 use Rattle.xs_cli.specs.Encoded.{IsEncodeTurn, encode_turn, file_front, with_front}
@@ -76,12 +76,12 @@ module _ (Answer Other : Said → Type 0) (Stands Others : List ℕ → List ℕ
 
 -- Decoding
 
-pub within_limit : (form : Form) (input : List ℕ) (said : Said) → length input ≤ input_limit → IsFormAnswer form input said → IsDecoded form input said
+pub within_limit : (form : Form) (input : List ℕ) (said : Said) → length input ≤ input_limit → IsFormAnswer form input said → IsDecodeAnswer form input said
 within_limit form input said within answer =
     let test : nat_lt input_limit (length input) ≡ false = grind (arith, nat_tests) in
     subst (λ (b : Bool). MatchBool b (said ≡ only_note (note.InputLimit input_limit)) (IsFormAnswer form input said)) (sym test) answer
 
-past_limit : (form : Form) (input : List ℕ) → input_limit < length input → IsDecoded form input (only_note (note.InputLimit input_limit))
+past_limit : (form : Form) (input : List ℕ) → input_limit < length input → IsDecodeAnswer form input (only_note (note.InputLimit input_limit))
 past_limit form input past =
     let test : nat_lt input_limit (length input) ≡ true = grind (arith, nat_tests) in
     subst (λ (b : Bool). MatchBool b (only_note (note.InputLimit input_limit) ≡ only_note (note.InputLimit input_limit)) (IsFormAnswer form input (only_note (note.InputLimit input_limit)))) (sym test) refl
@@ -102,7 +102,7 @@ form_answer Rtp input are = capture_answered input are
 form_answer (Pcap port) input are = file_exists port input are
 
 -- each input of bytes has an answer
-pub decode_answer : (form : Form) (input : List ℕ) → AreByteItems input → (said : Said) × IsDecoded form input said
+pub decode_answer : (form : Form) (input : List ℕ) → AreByteItems input → (said : Said) × IsDecodeAnswer form input said
 decode_answer form input are = elim (cases_lt input_limit (length input)) [
   | inl past ↦ (only_note (note.InputLimit input_limit), past_limit form input past)
   | inr within ↦ let found = form_answer form input (as_bytes input are) in (found.0, within_limit form input found.0 within found.1)
@@ -138,7 +138,7 @@ read_whole : (form : Form) (workers feeders : ℕ) (a c : Option (List ℕ)) (f 
 read_whole form workers feeders a c f h bytes output notes result Stands standing within are consumed end stops later halt = record {
   input = bytes;
   left = was_whole a c bytes are consumed end;
-  halt = halt_as (IsFormAnswer form bytes) (IsDecoded form bytes) Stands (IsCommandStanding (Decode form workers feeders)) bytes (ends_of (change_of a c f h) output notes)
+  halt = halt_as (IsFormAnswer form bytes) (IsDecodeAnswer form bytes) Stands (IsCommandStanding (Decode form workers feeders)) bytes (ends_of (change_of a c f h) output notes)
       (λ said answer. within_limit form bytes said within answer) standing result halt;
   stop = stops;
   whole = λ _. used_up a c f h bytes consumed end;
@@ -224,7 +224,7 @@ module _ (form : Form) (workers feeders : ℕ) (a c p : Option (List ℕ)) (f h 
   no_room front short consumed = record {
     input = unwrap_or a [];
     left = was_some a;
-    halt = nothing_said (IsDecoded form (unwrap_or a [])) (unwrap_or a []) (decode_answer form (unwrap_or a [])) (change_of a c f h) p u held faults;
+    halt = nothing_said (IsDecodeAnswer form (unwrap_or a [])) (unwrap_or a []) (decode_answer form (unwrap_or a [])) (change_of a c f h) p u held faults;
     stop = tt;
     whole = λ e. absurd (cc);
     most = (front, omega (arith, short), consumed);

@@ -28,7 +28,7 @@ use Rattle.xs_words.specs.declared.command.Command.TheVariants.{Encode, Decode, 
 use Rattle.xs_trial.specs.Generator.{trial_picture}
 use Rattle.xs_cli.specs.Tried.{IsTriedBy}
 use Rattle.xs_cli.specs.Answer.{IsCommandAnswer}
-use Rattle.xs_cli.specs.Decoded.{IsDecodeTurn, IsDecoded, IsDecodedTurn, IsTurnUnless, decode_ends, fault_notes, input_limit}
+use Rattle.xs_cli.specs.Decoded.{IsDecodeTurn, IsDecodeAnswer, IsDecodedTurn, IsTurnUnless, decode_ends, fault_notes, input_limit}
 use Rattle.xs_cli.specs.Encoded.{IsEncodeTurn, encoded_as, first_picture, turn_unless}
 use Rattle.xs_cli.specs.Good.{AreGoodPictures, AreGoodStreams, AreStreams, IsGood, picture_at}
 use Rattle.xs_cli.proofs.CapturedWhole.{captured_good, file_good}
@@ -173,7 +173,7 @@ ended_streams at rest notes streams turn = elim (cases_lt 0 (length rest)) [
         let e = in_order at rest (omega (arith, some)) (omega (arith, few)) ∙ ap (option_map (fault_notes at rest)) known.0 in
         no_end notes (as_ends at rest None (Ends notes) e turn)
 
-pub decoded_good : (input : List ℕ) → AreGoodStreams input → (said : Said) → IsDecoded Xs input said → status_of said ≡ 0
+pub decoded_good : (input : List ℕ) → AreGoodStreams input → (said : Said) → IsDecodeAnswer Xs input said → status_of said ≡ 0
 decoded_good input good said answer =
     let test : nat_lt input_limit (length input) ≡ false = (let within = good.within in grind (arith, nat_tests)) in
     let all : HasSaidAll IsDecodeTurn input said = subst (λ (b : Bool). MatchBool b (said ≡ only_note (note.InputLimit input_limit)) (HasSaidAll IsDecodeTurn input said)) test answer in

@@ -14,13 +14,13 @@ use Rattle.xs_words.specs.declared.command.Command.TheVariants.{Encode, Decode, 
 use Rattle.xs_words.specs.Refusal.{refusal_of}
 use Rattle.xs_words.specs.Command.{command_of}
 use Rattle.xs_cli.specs.Encoded.{EncodedStandsAfter, IsEncoded}
-use Rattle.xs_cli.specs.Decoded.{IsDecoded, input_limit}
+use Rattle.xs_cli.specs.Decoded.{IsDecodeAnswer, input_limit}
 use Rattle.xs_cli.specs.Tried.{IsTried}
 
 -- the answer of a command whose settings are in range
 abbrev pub IsCommandAnswer : Command → List ℕ → Said → Type 0
 IsCommandAnswer (Encode settings form) = IsEncoded settings form
-IsCommandAnswer (Decode form workers feeders) = IsDecoded form
+IsCommandAnswer (Decode form workers feeders) = IsDecodeAnswer form
 IsCommandAnswer (Trial settings seed) = λ input. IsTried settings seed
 
 -- words are refused before the input is read

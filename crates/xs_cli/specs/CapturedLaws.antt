@@ -23,7 +23,7 @@ use Rattle.xs_recv.specs.Laws.{IsStreamOf}
 use Rattle.xs_endings.specs.Said.{Said}
 use Rattle.xs_words.specs.declared.command.Form.TheVariants.{Rtp, Pcap}
 use Rattle.xs_cli.specs.Captured.{IsCaptured, IsFileAnswer}
-use Rattle.xs_cli.specs.Decoded.{IsDecoded, input_limit}
+use Rattle.xs_cli.specs.Decoded.{IsDecodeAnswer, input_limit}
 
 -- each input of bytes has an answer
 abbrev pub CapturesAnswered : Type 0
@@ -72,11 +72,11 @@ abbrev pub SentIsWritten : Type 0
 SentIsWritten = (s : Settings) (sent : List Sent) (arrived : List (List ℕ)) (input : List ℕ) (said : Said)
     → 1 ≤ s.step → length sent ≤ most_pictures → AreSentFrom s 0 sent → HaveSame arrived (packets_from s 0 sent)
     → IsCapture arrived input → AreBytes input → length input ≤ input_limit
-    → IsDecoded Rtp input said → said ≡ record { out = flat_map (λ (one : Sent). raw_bytes one.picture) sent; notes = [] }
+    → IsDecodeAnswer Rtp input said → said ≡ record { out = flat_map (λ (one : Sent). raw_bytes one.picture) sent; notes = [] }
 
 -- The same of a pcap file: exactly the packets of pictures, each beside some timestamp, are wrapped for a port, and are asked for by that port or by any.
 abbrev pub FileIsWritten : Type 0
 FileIsWritten = (s : Settings) (sent : List Sent) (port asked : ℕ) (arrived : List (ℕ × List ℕ)) (said : Said)
     → 1 ≤ s.step → length sent ≤ most_pictures → AreSentFrom s 0 sent → HaveSame (map (λ (entry : ℕ × List ℕ). entry.1) arrived) (packets_from s 0 sent)
     → port < 2 ^ 16 → (asked ≡ 0) ⊎ (asked ≡ port) → AllByRecursion IsEntry arrived → AreBytes (wrapped_file port arrived) → length (wrapped_file port arrived) ≤ input_limit
-    → IsDecoded (Pcap asked) (wrapped_file port arrived) said → said ≡ record { out = flat_map (λ (one : Sent). raw_bytes one.picture) sent; notes = [] }
+    → IsDecodeAnswer (Pcap asked) (wrapped_file port arrived) said → said ≡ record { out = flat_map (λ (one : Sent). raw_bytes one.picture) sent; notes = [] }

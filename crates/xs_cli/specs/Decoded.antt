@@ -67,5 +67,5 @@ IsFormAnswer Xs = HasSaidAll IsDecodeTurn
 IsFormAnswer Rtp = IsCaptured
 IsFormAnswer (Pcap port) = IsFileAnswer port
 
-abbrev pub IsDecoded : Form → List ℕ → Said → Type 0
-IsDecoded form input said = MatchBool (nat_lt input_limit (length input)) (said ≡ only_note (note.InputLimit input_limit)) (IsFormAnswer form input said)
+abbrev pub IsDecodeAnswer : Form → List ℕ → Said → Type 0
+IsDecodeAnswer form input said = MatchBool (nat_lt input_limit (length input)) (said ≡ only_note (note.InputLimit input_limit)) (IsFormAnswer form input said)
