@@ -1,7 +1,8 @@
 #!/bin/sh
-# Counts instructions a sample of the choice of a slice's candidate, and of all that writing the slice takes: 3840 by 16 pixels in 4:2:2 with
-# drawn coefficients, at so many bits a pixel (4 where none are given). The choice is what is counted of the rows and the search among the
-# candidates, each with all that it calls. A run that writes the slice eleven times less one that writes it once, by ten.
+# Counts instructions a sample of the choice of a slice's candidate, and of all that writing the slice takes: 3840 by 16 pixels in
+# 4:2:2 with drawn coefficients, at so many bits a pixel (4 where none are given). The choice is what is counted of the rows and the
+# search among the candidates, each with all that it calls. A run that writes the slice eleven times less one that writes it once,
+# by ten.
 # It uses the built program (crates/xs_choice_bench/out/xs_choice_bench, after `rt run` there or a whole `rt ci`) and valgrind.
 #
 #   sh bench/choice.sh [BITS]
