@@ -1,8 +1,8 @@
 //! A row is split across into its low and its high part, and put together again.
-ghost use Rattle.std.specs.Prelude.{◌≡◌, ℕ, ℤ, pos, ◌+◌, ◌*◌, ◌<◌, ◌≤◌, ◌^◌, ◌+ℤ◌, length, slice_index_or};
+ghost use Rattle.std.specs.Prelude.{◌≡◌, ℕ, ℤ, pos, ◌+◌, ◌-◌, ◌*◌, ◌<◌, ◌≤◌, ◌^◌, ◌+ℤ◌, length, slice_index_or};
 ghost use Rattle.xs_signal.specs.Lines.{AllBelow, Shows, entries_of};
-ghost use Rattle.xs_signal.specs.Wavelet.{low_count, high_count, low_of, high_of, inverse_line, even_of, evens_of, predicted_sample as prediction, updated};
-ghost use Rattle.xs_rows.specs.Halves.{ShowsEvens, ShowsOdds};
+ghost use Rattle.xs_signal.specs.Wavelet.{low_count, high_count, low_of, high_of, inverse_line, even_of, updated};
+ghost use Rattle.xs_rows.specs.Halves.{ShowsJoined};
 
 use crate::lifting::{predict_forward, predict_inverse, update_forward, update_inverse};
 
@@ -28,8 +28,8 @@ pub fn join_row(low: &[i32], high: &[i32], line: &mut [i32])
     requires high { AllBelow (2 ^ 28) (entries_of high.now) }
     ensures { Shows line.new (inverse_line (length line.old) (entries_of low.now) (entries_of high.now)) }
 {
-    fill_evens(low, high, line);
-    fill_odds(high, line);
+    let even = join_pairs(low, high, line);
+    join_last(low, high, even, line);
 }
 
 // The high part: each odd sample less half of its neighbours.
@@ -72,44 +72,45 @@ fn fill_low(line: &[i32], high: &[i32], low: &mut [i32])
     }
 }
 
-// The even samples: each low-pass entry less a quarter of its high-pass neighbours.
-fn fill_evens(low: &[i32], high: &[i32], line: &mut [i32])
+// All pairs of an even and an odd sample but the last; answers the even sample of that.
+fn join_pairs(low: &[i32], high: &[i32], line: &mut [i32]) -> i32
     requires two { 2 ≤ length line.old }
     requires lows { length low.now ≡ low_count (length line.old) }
     requires highs { length high.now ≡ high_count (length line.old) }
     requires low { AllBelow (2 ^ 28) (entries_of low.now) }
     requires high { AllBelow (2 ^ 28) (entries_of high.now) }
-    ensures { ShowsEvens line.new (even_of (length line.old) (entries_of low.now) (entries_of high.now)) }
+    ensures even { result ≡ even_of (length line.old) (entries_of low.now) (entries_of high.now) (length high.now - 1) }
+    ensures pairs { ShowsJoined line.new (length high.now - 1) (length line.old) (entries_of low.now) (entries_of high.now) }
 {
-    let mut left = high[0];
-    for k in 0..high.len() {
-        let right = high[k];
-        line[2 * k] = update_inverse(low[k], left, right);
-        left = right;
+    let last = high.len() - 1;
+    let mut even = update_inverse(low[0], high[0], high[0]);
+    for k in 0..last {
+        let next = update_inverse(low[k + 1], high[k], high[k + 1]);
+        line[2 * k] = even;
+        line[2 * k + 1] = predict_inverse(high[k], even, next);
+        even = next;
     }
-    let last = high.len();
-    if last < low.len() {
-        line[2 * last] = update_inverse(low[last], left, left);
-    }
+    even
 }
 
-// The odd samples: each high-pass entry and half of its even neighbours.
-fn fill_odds(high: &[i32], line: &mut [i32])
+// The last pair, and for an odd number of samples the even one after it.
+fn join_last(low: &[i32], high: &[i32], even: i32, line: &mut [i32])
     requires two { 2 ≤ length line.old }
+    requires lows { length low.now ≡ low_count (length line.old) }
     requires highs { length high.now ≡ high_count (length line.old) }
+    requires low { AllBelow (2 ^ 28) (entries_of low.now) }
     requires high { AllBelow (2 ^ 28) (entries_of high.now) }
-    requires evens { AllBelow (2 ^ 29) (evens_of (entries_of line.old)) }
-    ensures odds { ShowsOdds line.new (λ k. entries_of high.now k +ℤ prediction (length line.old) (evens_of (entries_of line.old)) k) }
-    ensures evens { ShowsEvens line.new (evens_of (entries_of line.old)) }
+    requires even { even ≡ even_of (length line.old) (entries_of low.now) (entries_of high.now) (length high.now - 1) }
+    requires pairs { ShowsJoined line.old (length high.now - 1) (length line.old) (entries_of low.now) (entries_of high.now) }
+    ensures { Shows line.new (inverse_line (length line.old) (entries_of low.now) (entries_of high.now)) }
 {
-    let inner = (line.len() - 1) / 2;
-    let mut left = line[0];
-    for k in 0..inner {
-        let right = line[2 * k + 2];
-        line[2 * k + 1] = predict_inverse(high[k], left, right);
-        left = right;
-    }
-    if inner < high.len() {
-        line[2 * inner + 1] = predict_inverse(high[inner], left, left);
+    let last = high.len() - 1;
+    line[2 * last] = even;
+    if last + 1 < low.len() {
+        let next = update_inverse(low[last + 1], high[last], high[last]);
+        line[2 * last + 1] = predict_inverse(high[last], even, next);
+        line[2 * last + 2] = next;
+    } else {
+        line[2 * last + 1] = predict_inverse(high[last], even, even);
     }
 }

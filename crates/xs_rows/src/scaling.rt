@@ -90,7 +90,7 @@ fn limited(value: i32, depth: u8) -> u16
     requires depth { IsDepth depth }
     ensures { result ≡ clamped (2 ^ depth - 1) value }
 {
-    value.clamp(0, power(depth) - 1) as u16
+    value.max(0).min(power(depth) - 1) as u16
 }
 
 // The sample times 2 to the step.

@@ -1,4 +1,4 @@
-use Rattle.std.proofs.Common.{◌≢◌, ◌^◌, pos, ◌+ℤ◌, ◌-ℤ◌, arith, ◌∙◌, get_or-set_other}
+use Rattle.std.proofs.Common.{◌≢◌, ◌^◌, pos, ◌+ℤ◌, arith, ◌∙◌, get_or-set_other}
 use Rattle.std.specs.Int.{int_shr}
 use Rattle.xs_signal.specs.Lines.{entries_of}
 use Rattle.xs_rows.proofs.Places.{one_more}

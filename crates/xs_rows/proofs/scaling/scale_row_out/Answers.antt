@@ -1,7 +1,6 @@
-use Rattle.std.proofs.Common.{◌≡◌, ℕ, ◌<◌, ◌≤◌, ◌^◌, length, pos, arith, ap, sym, subst, ◌∙◌, inl, inr, get_or-set_other}
+use Rattle.std.proofs.Common.{◌≡◌, ◌<◌, ◌^◌, length, arith, ap, sym, subst, ◌∙◌, inl, inr, get_or-set_other}
 use Rattle.std.proofs.lemmas.Bool.{cases_eq}
 use Rattle.std.proofs.lemmas.Grind.{get_or-set_at, get_or_default_zero}
-use Rattle.std.specs.Prelude.{slice_index}
 use Rattle.xs_signal.specs.Lines.{entries_of}
 use Rattle.xs_signal.specs.Samples.{scale_out}
 use Rattle.xs_rows.proofs.Values.{passed_small, sample_below}
