@@ -4,10 +4,10 @@ ghost use Rattle.std.specs.Int.{is_negative};
 ghost use Rattle.xs_layout.specs.declared.Quant.TheVariants.{DeadZone, Uniform};
 ghost use Rattle.xs_lists.specs.Spelling.{upto};
 ghost use Rattle.xs_signal.specs.Fold.{IsFraction, fold as fold_of};
-ghost use Rattle.xs_quant.specs.Rows.{AreSent, raised};
+ghost use Rattle.xs_quant.specs.Rows.{AreSent, raised, signed_step};
 
 use crate::dead_zone::middle;
-use crate::uniform::spread;
+use crate::uniform::factors_of;
 use xs_layout::Quant;
 
 /// Folds the coefficients of a row, entry by entry.
@@ -74,6 +74,7 @@ fn raise_to_middles(by: Raise, counts: &[u8], values: &[i32], row: &mut [i32])
     }
 }
 
+// Each step is one product: what stands for a number below itself hangs on the count alone.
 fn raise_to_steps(by: Raise, counts: &[u8], values: &[i32], row: &mut [i32])
     requires kind { by.kind ≡ Uniform }
     requires fq { by.fq ≤ 8 }
@@ -81,20 +82,46 @@ fn raise_to_steps(by: Raise, counts: &[u8], values: &[i32], row: &mut [i32])
     requires sent { AreSent by.t counts.now values.now }
     ensures { row.new ≡ map (raised by counts.now values.now) (upto (length values.now)) }
 {
-    'columns: for column in 0..values.len() {
-        let count = counts[column / 4];
-        let step = if count > by.t {
-            spread(magnitude_at(values, column), count, by.t)
-        } else {
-            0
-        };
-        put_signed(
-            row,
-            column,
-            shifted(step, by.fq),
-            is_below_zero(values, column),
-        );
+    let factors = factors_of(by.t);
+    let whole = values.len() / 4;
+    'groups: for group in 0..whole {
+        let factor = factors[counts[group] as usize];
+        put_step(values, 4 * group, (factor, by.fq), row);
+        put_step(values, 4 * group + 1, (factor, by.fq), row);
+        put_step(values, 4 * group + 2, (factor, by.fq), row);
+        put_step(values, 4 * group + 3, (factor, by.fq), row);
     }
+    'rest: for column in 4 * whole..values.len() {
+        let factor = factors[counts[column / 4] as usize];
+        put_step(values, column, (factor, by.fq), row);
+    }
+}
+
+// Puts what stands for the number at a column, by its factor and the bits that it is shifted.
+fn put_step(values: &[i32], column: usize, by: (u32, u8), row: &mut [i32])
+    requires there { column < length values.now }
+    requires width { length row.old ≡ length values.now }
+    requires fq { by.1 ≤ 8 }
+    requires product { unsigned_abs (slice_index_or values.now column (pos 0)) * by.0 < 2 ^ 31 }
+    ensures { row.new ≡ slice_set row.old column (signed_step by.0 by.1 (slice_index_or values.now column (pos 0))) }
+{
+    let (factor, fq) = by;
+    let step = by_factor(magnitude_at(values, column), factor);
+    put_signed(
+        row,
+        column,
+        shifted(step, fq),
+        is_below_zero(values, column),
+    );
+}
+
+// A product without its 16 lowest bits.
+fn by_factor(magnitude: u32, factor: u32) -> u32
+    requires { magnitude * factor < 2 ^ 31 }
+    ensures step { result ≡ magnitude * factor / 2 ^ 16 }
+    ensures small { result < 2 ^ 15 }
+{
+    (magnitude * factor) >> 16
 }
 
 fn magnitude_at(values: &[i32], column: usize) -> u32
