@@ -1,1 +1,2 @@
-mod RawPictures
+pub mod RawPictures
+pub mod RowRanges

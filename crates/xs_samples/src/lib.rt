@@ -2,7 +2,9 @@
 #![tactic(auto)]
 
 mod raw;
+mod rows;
 mod scaling;
 
-pub use raw::{SampleFault, raw_size, read_picture, write_picture};
+pub use raw::{SampleFault, raw_size, read_picture, read_rows, write_picture, write_rows};
+pub use rows::RowRange;
 pub use scaling::{scale_in, scale_out};

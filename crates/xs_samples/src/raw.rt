@@ -1,6 +1,6 @@
 // Raw pictures: component after component, rows from the top, a sample in one byte, or in two with the low one first.
 // docs/FORMAT.md, 'Samples, scaling and colour'.
-ghost use Rattle.std.specs.Prelude.{◌≡◌, ◌≢◌, ◌+◌, ◌*◌, ◌^◌, ◌<◌, ◌≤◌, None, Some, IfErr, IfOk, OnOk, length, replicate};
+ghost use Rattle.std.specs.Prelude.{◌≡◌, ◌≢◌, ◌+◌, ◌*◌, ◌^◌, ◌<◌, ◌≤◌, ℕ, List, None, Some, IfErr, IfOk, OnOk, length, replicate};
 ghost use Rattle.std.specs.Int.{to_le_bytes, w16};
 ghost use Rattle.std.specs.List.{flat_map};
 ghost use Rattle.std.specs.Option.{option_map};
@@ -8,7 +8,9 @@ ghost use Rattle.xs_layout.specs.Geometry.{components_of};
 ghost use Rattle.xs_layout.specs.Limits.{IsDepth};
 ghost use Rattle.xs_params.specs.Picture.{AreSamples, IsPicture, IsRow, IsShape, over_sample, picture_of_raw, plane_first, put_at, raw_bytes, raw_size, row_first, sample_bytes, sample_size, width_of};
 ghost use Rattle.xs_samples.specs.Raw.{HasRead, HasWritten};
+ghost use Rattle.xs_samples.specs.Rows.{AreRows, AreRowsOf, IsReadOf, rows_bytes, rows_size};
 
+use crate::rows::RowRange;
 use std::alloc::Global;
 use thiserror::Error;
 use xs_io::{Memory, Octets};
@@ -64,6 +66,55 @@ pub fn write_picture(alloc: Global, planes: &Planes) -> Result<Octets, Memory>
     Ok(Octets::from(bytes))
 }
 
+/// Reads some rows from their raw bytes, or tells the place in the whole raw picture of the first sample that has more bits than
+/// the depth.
+pub fn read_rows(planes: &mut Planes, rows: RowRange, bytes: &[u8]) -> Result<(), u32>
+    requires rows { AreRows planes.old.shape rows }
+    requires component { rows.component < components_of planes.old.shape.format }
+    requires size { length bytes.now ≡ rows_size planes.old.shape rows }
+    ensures shape { planes.new.shape ≡ planes.old.shape }
+    ensures read { (whole : List ℕ) → AreRowsOf planes.old.shape rows bytes.now whole → HasRead planes.old (row_first planes.old.shape rows.component rows.first) whole → IsReadOf planes.new (row_first planes.old.shape rows.component rows.end) result whole }
+{
+    let shape = *planes.shape();
+    let sample = sample_size(shape.depth);
+    let width = component_width(&shape, rows.component) as usize * sample;
+    'rows: for row in rows.first..rows.end {
+        known_picture(planes);
+        let start = rows.row_start(&shape, row);
+        if let Err(column) = planes.set_raw_row(rows.component, row, &bytes[start..start + width]) {
+            let place = row_place(&shape, rows.component, row) + column * sample;
+            return Err(place as u32);
+        }
+    }
+    Ok(())
+}
+
+/// The raw bytes of some rows.
+pub fn write_rows(alloc: Global, planes: &Planes, rows: RowRange) -> Result<Octets, Memory>
+    requires rows { AreRows planes.now.shape rows }
+    requires component { rows.component < components_of planes.now.shape.format }
+    ensures { IfOk result (λ bytes. bytes ≡ rows_bytes planes.now rows) }
+{
+    let shape = planes.shape();
+    let mut bytes = zeros(alloc, rows.size(shape))?;
+    fill_rows(planes, rows, bytes.as_mut_slice());
+    Ok(Octets::from(bytes))
+}
+
+/// Writes some rows one after the other.
+fn fill_rows(planes: &Planes, rows: RowRange, bytes: &mut [u8])
+    requires rows { AreRows planes.now.shape rows }
+    requires component { rows.component < components_of planes.now.shape.format }
+    requires size { length bytes.old ≡ rows_size planes.now.shape rows }
+    ensures { bytes.new ≡ rows_bytes planes.now rows }
+{
+    let shape = planes.shape();
+    'rows: for row in rows.first..rows.end {
+        let start = rows.row_start(shape, row);
+        put_row(bytes, start, shape.depth, planes.row(rows.component, row));
+    }
+}
+
 /// Reads the rows of a component, or tells the first sample that has more bits than the depth.
 fn read_plane(planes: &mut Planes, component: u32, bytes: &[u8]) -> Result<(), SampleFault>
     requires component { component < components_of planes.old.shape.format }
@@ -117,7 +168,7 @@ fn zeros(alloc: Global, count: usize) -> Result<Vec<u8>, Memory>
 }
 
 /// The bytes of a sample.
-fn sample_size(depth: u8) -> usize
+pub fn sample_size(depth: u8) -> usize
     ensures { result ≡ sample_size depth }
 {
     if depth == 8 { 1 } else { 2 }
@@ -139,7 +190,7 @@ fn samples_before(shape: &Shape, component: u32) -> usize
 }
 
 /// Where the first byte of a row lies.
-fn row_place(shape: &Shape, component: u32, row: u32) -> usize
+pub fn row_place(shape: &Shape, component: u32, row: u32) -> usize
     requires shape { IsShape shape.now }
     requires row { IsRow shape.now component row }
     ensures place { result ≡ row_first shape.now component row * sample_size shape.now.depth }
