@@ -17,24 +17,25 @@ use Rattle.xs_splitter.specs.declared.level.Level.{Level}
 use Rattle.xs_splitter.specs.declared.columns.Columns.{Columns}
 use Rattle.xs_splitter.proofs.Lifted.{raised_small, shows_at}
 
-each_row : (rows : List (List ℤ)) (row : List ℤ) (P : ℕ → List ℤ → Type 0) → ((k : ℕ) → k < length rows → P k (get_or rows k [])) → P (length rows) row → (k : ℕ) → k < length (rows ++ row ∷ []) → P k (get_or (rows ++ row ∷ []) k [])
-each_row rows row P old new k inside =
+each_row : (start : ℕ) (rows : List (List ℤ)) (row : List ℤ) (P : ℕ → List ℤ → Type 0) → ((k : ℕ) → start ≤ k → k < length rows → P k (get_or rows k [])) → P (length rows) row
+    → (k : ℕ) → start ≤ k → k < length (rows ++ row ∷ []) → P k (get_or (rows ++ row ∷ []) k [])
+each_row start rows row P old new k above inside =
     elim (cases_lt k (length rows)) [
-      | inl before ↦ subst (P k) (sym (get_or_append_left rows (row ∷ []) [] k before)) (old k before)
+      | inl before ↦ subst (P k) (sym (get_or_append_left rows (row ∷ []) [] k before)) (old k above before)
       | inr past ↦
           let last : k ≡ length rows = omega (arith, past, inside, length-append {A = List ℤ} rows (row ∷ [])) in
           let seen : get_or (rows ++ row ∷ []) k [] ≡ row = ap (λ i. get_or (rows ++ row ∷ []) i []) last ∙ get_or-append_seam rows row [] [] in
           subst (P k) (sym seen) (subst (λ i. P i row) (sym last) new)
     ]
 
-pub rows_more : (width : ℕ) (rows : List (List ℤ)) (row : List ℤ) (q : ℕ → ℕ → ℤ) → ShowRows width rows q → length row ≡ width → Shows row (q (length rows)) → ShowRows width (rows ++ row ∷ []) q
-rows_more width rows row q old wide new = record {
-  wide = each_row rows row (λ _ r. length r ≡ width) old.wide wide;
-  shown = each_row rows row (λ k r. Shows r (q k)) old.shown new;
+pub rows_more : (start width : ℕ) (rows : List (List ℤ)) (row : List ℤ) (q : ℕ → ℕ → ℤ) → ShowRows start width rows q → length row ≡ width → Shows row (q (length rows)) → ShowRows start width (rows ++ row ∷ []) q
+rows_more start width rows row q old wide new = record {
+  wide = each_row start rows row (λ _ r. length r ≡ width) old.wide wide;
+  shown = each_row start rows row (λ k r. Shows r (q k)) old.shown new;
 }
 
-pub rows_added : (width : ℕ) (rows more : List (List ℤ)) (row : List ℤ) (q : ℕ → ℕ → ℤ) → more ≡ rows ++ row ∷ [] → ShowRows width rows q → length row ≡ width → Shows row (q (length rows)) → ShowRows width more q
-rows_added width rows more row q added old wide new = subst (λ r. ShowRows width r q) (sym added) (rows_more width rows row q old wide new)
+pub rows_added : (start width : ℕ) (rows more : List (List ℤ)) (row : List ℤ) (q : ℕ → ℕ → ℤ) → more ≡ rows ++ row ∷ [] → ShowRows start width rows q → length row ≡ width → Shows row (q (length rows)) → ShowRows start width more q
+rows_added start width rows more row q added old wide new = subst (λ r. ShowRows start width r q) (sym added) (rows_more start width rows row q old wide new)
 
 pub one_added : (rows more : List (List ℤ)) (row : List ℤ) → more ≡ rows ++ row ∷ [] → length more ≡ length rows + 1
 one_added rows more row added = ap length added ∙ length-append rows (row ∷ [])
@@ -142,19 +143,19 @@ pub one_more : (l n : Level) → HasOneMore l.columns n.columns → n.deep ≡ l
 one_more l n more deep = record { width = more.width; height = more.height; bits = more.bits; deep = deep }
 
 -- then its rows are those of the same planes
-hl_same : (l n : Level) (p : ℕ → ℕ → ℤ) (rows : List (List ℤ)) → IsSameLevel l n → ShowRows (high_count l.columns.width) rows (λ row. high_of l.columns.width (kept_rows l p row)) → ShowRows (high_count n.columns.width) rows (λ row. high_of n.columns.width (kept_rows n p row))
-hl_same l n p rows same old =
-    subst (λ w. ShowRows (high_count w) rows (λ row. high_of w (kept_rows n p row))) (sym same.width)
-    (subst (λ d. ShowRows (high_count l.columns.width) rows (λ row. high_of l.columns.width ((if d then low_rows n.columns.height p else p) row))) (sym same.deep)
-    (subst (λ h. ShowRows (high_count l.columns.width) rows (λ row. high_of l.columns.width ((if l.deep then low_rows h p else p) row))) (sym same.height) old))
+pub hl_same : (start : ℕ) (l n : Level) (p : ℕ → ℕ → ℤ) (rows : List (List ℤ)) → IsSameLevel l n → ShowRows start (high_count l.columns.width) rows (λ row. high_of l.columns.width (kept_rows l p row)) → ShowRows start (high_count n.columns.width) rows (λ row. high_of n.columns.width (kept_rows n p row))
+hl_same start l n p rows same old =
+    subst (λ w. ShowRows start (high_count w) rows (λ row. high_of w (kept_rows n p row))) (sym same.width)
+    (subst (λ d. ShowRows start (high_count l.columns.width) rows (λ row. high_of l.columns.width ((if d then low_rows n.columns.height p else p) row))) (sym same.deep)
+    (subst (λ h. ShowRows start (high_count l.columns.width) rows (λ row. high_of l.columns.width ((if l.deep then low_rows h p else p) row))) (sym same.height) old))
 
-lh_same : (l n : Level) (p : ℕ → ℕ → ℤ) (rows : List (List ℤ)) → IsSameLevel l n → ShowRows (low_count l.columns.width) rows (λ row. low_of l.columns.width (high_rows l.columns.height p row)) → ShowRows (low_count n.columns.width) rows (λ row. low_of n.columns.width (high_rows n.columns.height p row))
-lh_same l n p rows same old =
-    subst (λ w. ShowRows (low_count w) rows (λ row. low_of w (high_rows n.columns.height p row))) (sym same.width) (subst (λ h. ShowRows (low_count l.columns.width) rows (λ row. low_of l.columns.width (high_rows h p row))) (sym same.height) old)
+pub lh_same : (start : ℕ) (l n : Level) (p : ℕ → ℕ → ℤ) (rows : List (List ℤ)) → IsSameLevel l n → ShowRows start (low_count l.columns.width) rows (λ row. low_of l.columns.width (high_rows l.columns.height p row)) → ShowRows start (low_count n.columns.width) rows (λ row. low_of n.columns.width (high_rows n.columns.height p row))
+lh_same start l n p rows same old =
+    subst (λ w. ShowRows start (low_count w) rows (λ row. low_of w (high_rows n.columns.height p row))) (sym same.width) (subst (λ h. ShowRows start (low_count l.columns.width) rows (λ row. low_of l.columns.width (high_rows h p row))) (sym same.height) old)
 
-hh_same : (l n : Level) (p : ℕ → ℕ → ℤ) (rows : List (List ℤ)) → IsSameLevel l n → ShowRows (high_count l.columns.width) rows (λ row. high_of l.columns.width (high_rows l.columns.height p row)) → ShowRows (high_count n.columns.width) rows (λ row. high_of n.columns.width (high_rows n.columns.height p row))
-hh_same l n p rows same old =
-    subst (λ w. ShowRows (high_count w) rows (λ row. high_of w (high_rows n.columns.height p row))) (sym same.width) (subst (λ h. ShowRows (high_count l.columns.width) rows (λ row. high_of l.columns.width (high_rows h p row))) (sym same.height) old)
+pub hh_same : (start : ℕ) (l n : Level) (p : ℕ → ℕ → ℤ) (rows : List (List ℤ)) → IsSameLevel l n → ShowRows start (high_count l.columns.width) rows (λ row. high_of l.columns.width (high_rows l.columns.height p row)) → ShowRows start (high_count n.columns.width) rows (λ row. high_of n.columns.width (high_rows n.columns.height p row))
+hh_same start l n p rows same old =
+    subst (λ w. ShowRows start (high_count w) rows (λ row. high_of w (high_rows n.columns.height p row))) (sym same.width) (subst (λ h. ShowRows start (high_count l.columns.width) rows (λ row. high_of l.columns.width (high_rows h p row))) (sym same.height) old)
 
 -- the row that is split across, as the plane's row with its number
 pub record IsGiven (p : ℕ → ℕ → ℤ) (l : Level) (row : List ℤ) : Type 0 where
@@ -164,29 +165,29 @@ pub record IsGiven (p : ℕ → ℕ → ℤ) (l : Level) (row : List ℤ) : Type
 pub given_shown : (p : ℕ → ℕ → ℤ) (l : Level) (row low : List ℤ) (old new : List (List ℤ)) → 2 ≤ l.columns.width → IsGiven p l row → IsSplitOff row low old new → Shows low (given_rows l p (length l.hl.items))
 given_shown p l row low old new two given split = low_part_shows l.columns.width row low split.high (kept_rows l p (length l.hl.items)) two given.wide split.parts given.shown
 
-hl_more : (p : ℕ → ℕ → ℤ) (l n : Level) (row low : List ℤ) → HoldsRows p l → IsSameLevel l n → IsGiven p l row → IsSplitOff row low l.hl.items n.hl.items
-    → ShowRows (high_count n.columns.width) n.hl.items (λ k. high_of n.columns.width (kept_rows n p k))
-hl_more p l n row low h same given split =
-    hl_same l n p n.hl.items same
-    (rows_added (high_count l.columns.width) l.hl.items n.hl.items split.high (λ k. high_of l.columns.width (kept_rows l p k)) split.added h.bands.hl (split.parts.high_width ∙ ap high_count given.wide) (high_part_shows l.columns.width row low split.high (kept_rows l p (length l.hl.items)) given.wide split.parts given.shown))
+hl_more : (start : ℕ) (p : ℕ → ℕ → ℤ) (l n : Level) (row low : List ℤ) → HoldsRows start p l → IsSameLevel l n → IsGiven p l row → IsSplitOff row low l.hl.items n.hl.items
+    → ShowRows start (high_count n.columns.width) n.hl.items (λ k. high_of n.columns.width (kept_rows n p k))
+hl_more start p l n row low h same given split =
+    hl_same start l n p n.hl.items same
+    (rows_added start (high_count l.columns.width) l.hl.items n.hl.items split.high (λ k. high_of l.columns.width (kept_rows l p k)) split.added h.bands.hl (split.parts.high_width ∙ ap high_count given.wide) (high_part_shows l.columns.width row low split.high (kept_rows l p (length l.hl.items)) given.wide split.parts given.shown))
 
 pub flat_given : (p : ℕ → ℕ → ℤ) (l : Level) (row : List ℤ) → l.deep ≡ false → IsLevel l → length row ≡ l.columns.width → Shows row (p l.columns.taken) → IsGiven p l row
 flat_given p l row flat s wide shown =
     let count : length l.hl.items ≡ l.columns.taken = s.low ∙ ap (λ d. if d then known_rows l.columns.taken else l.columns.taken) flat in
     record { wide = wide; shown = subst (λ q. Shows row (q (length l.hl.items))) (sym (kept_flat l p flat)) (subst (λ k. Shows row (p k)) (sym count) shown) }
 
-pub flat_bands : (p : ℕ → ℕ → ℤ) (l n : Level) (row low : List ℤ) → HoldsRows p l → IsSameLevel l n → n.lh ≡ l.lh → n.hh ≡ l.hh → IsGiven p l row → IsSplitOff row low l.hl.items n.hl.items → HoldsBands p n
-flat_bands p l n row low h same lhs hhs given split = record {
-  hl = hl_more p l n row low h same given split;
-  lh = subst (λ v. ShowRows (low_count n.columns.width) v.items (λ k. low_of n.columns.width (high_rows n.columns.height p k))) (sym lhs) (lh_same l n p l.lh.items same h.bands.lh);
-  hh = subst (λ v. ShowRows (high_count n.columns.width) v.items (λ k. high_of n.columns.width (high_rows n.columns.height p k))) (sym hhs) (hh_same l n p l.hh.items same h.bands.hh);
+pub flat_bands : (start : ℕ) (p : ℕ → ℕ → ℤ) (l n : Level) (row low : List ℤ) → HoldsRows start p l → IsSameLevel l n → n.lh ≡ l.lh → n.hh ≡ l.hh → IsGiven p l row → IsSplitOff row low l.hl.items n.hl.items → HoldsBands start p n
+flat_bands start p l n row low h same lhs hhs given split = record {
+  hl = hl_more start p l n row low h same given split;
+  lh = subst (λ v. ShowRows start (low_count n.columns.width) v.items (λ k. low_of n.columns.width (high_rows n.columns.height p k))) (sym lhs) (lh_same start l n p l.lh.items same h.bands.lh);
+  hh = subst (λ v. ShowRows start (high_count n.columns.width) v.items (λ k. high_of n.columns.width (high_rows n.columns.height p k))) (sym hhs) (hh_same start l n p l.hh.items same h.bands.hh);
 }
 
-pub flat_holds : (p : ℕ → ℕ → ℤ) (l n : Level) (row low : List ℤ) → l.deep ≡ false → HoldsRows p l → HasOneMore l.columns n.columns → n.deep ≡ l.deep → n.lh ≡ l.lh → n.hh ≡ l.hh → IsGiven p l row → IsSplitOff row low l.hl.items n.hl.items
-    → HoldsRows p n
-flat_holds p l n row low flat h more same lhs hhs given split = record {
+pub flat_holds : (start : ℕ) (p : ℕ → ℕ → ℤ) (l n : Level) (row low : List ℤ) → l.deep ≡ false → HoldsRows start p l → HasOneMore l.columns n.columns → n.deep ≡ l.deep → n.lh ≡ l.lh → n.hh ≡ l.hh → IsGiven p l row → IsSplitOff row low l.hl.items n.hl.items
+    → HoldsRows start p n
+flat_holds start p l n row low flat h more same lhs hhs given split = record {
   last = λ deep. absurd (not_both n.deep (same ∙ flat) deep);
-  bands = flat_bands p l n row low h (one_more l n more same) lhs hhs given split;
+  bands = flat_bands start p l n row low h (one_more l n more same) lhs hhs given split;
 }
 
 -- ---- a level that is split both ways
@@ -196,27 +197,27 @@ deep_given p l row k deep s wide known shown =
     let count : length l.hl.items ≡ k = s.low ∙ ap (λ d. if d then known_rows l.columns.taken else l.columns.taken) deep ∙ sym known in
     record { wide = wide; shown = subst (λ q. Shows row (q (length l.hl.items))) (sym (kept_deep l p deep)) (subst (λ i. Shows row (low_rows l.columns.height p i)) (sym count) shown) }
 
-pub deep_bands : (p : ℕ → ℕ → ℤ) (l n : Level) (row low line : List ℤ) (k : ℕ) → l.deep ≡ true → IsLevel l → HoldsRows p l → IsSameLevel l n → IsGiven p l row → IsSplitOff row low l.hl.items n.hl.items
-    → length line ≡ l.columns.width → k ≡ known_rows l.columns.taken → Shows line (high_rows l.columns.height p k) → IsHighSplit line l n → HoldsBands p n
-deep_bands p l n row low line k deep s h same given split wide known shown high =
+pub deep_bands : (start : ℕ) (p : ℕ → ℕ → ℤ) (l n : Level) (row low line : List ℤ) (k : ℕ) → l.deep ≡ true → IsLevel l → HoldsRows start p l → IsSameLevel l n → IsGiven p l row → IsSplitOff row low l.hl.items n.hl.items
+    → length line ≡ l.columns.width → k ≡ known_rows l.columns.taken → Shows line (high_rows l.columns.height p k) → IsHighSplit line l n → HoldsBands start p n
+deep_bands start p l n row low line k deep s h same given split wide known shown high =
     let w = l.columns.width in
     let lows : length l.lh.items ≡ k = s.lh deep ∙ sym known in
     let highs : length l.hh.items ≡ k = s.hh deep ∙ sym known in
     let seen_low : Shows line (high_rows l.columns.height p (length l.lh.items)) = subst (λ i. Shows line (high_rows l.columns.height p i)) (sym lows) shown in
     let seen_high : Shows line (high_rows l.columns.height p (length l.hh.items)) = subst (λ i. Shows line (high_rows l.columns.height p i)) (sym highs) shown in
     record {
-      hl = hl_more p l n row low h same given split;
-      lh = lh_same l n p n.lh.items same
-          (rows_added (low_count w) l.lh.items n.lh.items high.low (λ i. low_of w (high_rows l.columns.height p i)) high.added h.bands.lh (high.split.parts.low_width ∙ ap low_count wide) (low_part_shows w line high.low high.split.high _ s.two wide high.split.parts seen_low));
-      hh = hh_same l n p n.hh.items same
-          (rows_added (high_count w) l.hh.items n.hh.items high.split.high (λ i. high_of w (high_rows l.columns.height p i)) high.split.added h.bands.hh (high.split.parts.high_width ∙ ap high_count wide) (high_part_shows w line high.low high.split.high _ wide high.split.parts seen_high));
+      hl = hl_more start p l n row low h same given split;
+      lh = lh_same start l n p n.lh.items same
+          (rows_added start (low_count w) l.lh.items n.lh.items high.low (λ i. low_of w (high_rows l.columns.height p i)) high.added h.bands.lh (high.split.parts.low_width ∙ ap low_count wide) (low_part_shows w line high.low high.split.high _ s.two wide high.split.parts seen_low));
+      hh = hh_same start l n p n.hh.items same
+          (rows_added start (high_count w) l.hh.items n.hh.items high.split.high (λ i. high_of w (high_rows l.columns.height p i)) high.split.added h.bands.hh (high.split.parts.high_width ∙ ap high_count wide) (high_part_shows w line high.low high.split.high _ wide high.split.parts seen_high));
     }
 
-pub deep_holds : (p : ℕ → ℕ → ℤ) (l n : Level) (row low line : List ℤ) (k : ℕ) → l.deep ≡ true → IsLevel l → HoldsRows p l → HasOneMore l.columns n.columns → n.deep ≡ l.deep → IsGiven p l row → IsSplitOff row low l.hl.items n.hl.items
-    → HoldsLast p n.columns → length line ≡ l.columns.width → k ≡ known_rows l.columns.taken → Shows line (high_rows l.columns.height p k) → IsHighSplit line l n → HoldsRows p n
-deep_holds p l n row low line k deep s h more same given split last wide known shown high = record {
+pub deep_holds : (start : ℕ) (p : ℕ → ℕ → ℤ) (l n : Level) (row low line : List ℤ) (k : ℕ) → l.deep ≡ true → IsLevel l → HoldsRows start p l → HasOneMore l.columns n.columns → n.deep ≡ l.deep → IsGiven p l row → IsSplitOff row low l.hl.items n.hl.items
+    → HoldsLast p n.columns → length line ≡ l.columns.width → k ≡ known_rows l.columns.taken → Shows line (high_rows l.columns.height p k) → IsHighSplit line l n → HoldsRows start p n
+deep_holds start p l n row low line k deep s h more same given split last wide known shown high = record {
   last = λ _. last;
-  bands = deep_bands p l n row low line k deep s h (one_more l n more same) given split wide known shown high;
+  bands = deep_bands start p l n row low line k deep s h (one_more l n more same) given split wide known shown high;
 }
 
 pub last_known : (p : ℕ → ℕ → ℤ) (old new : Columns) → HasOneMore old new → HoldsLast p new → 2 ≤ old.taken → Shows new.high (high_rows old.height p (old.taken / 2 - 1))
@@ -234,12 +235,12 @@ if_ok (Err e) P Q f h = h
 pub last_given : (p : ℕ → ℕ → ℤ) (l : Level) (row : List ℤ) → l.deep ≡ true → IsLevel l → l.columns.taken ≡ l.columns.height → 2 ≤ l.columns.height → length row ≡ l.columns.width → Shows row (low_rows l.columns.height p (low_count l.columns.height - 1)) → IsGiven p l row
 last_given p l row deep s all two wide shown = deep_given p l row (low_count l.columns.height - 1) deep s wide (omega (arith, all, two)) shown
 
-pub last_bands : (p : ℕ → ℕ → ℤ) (l n : Level) (pair : Bool) (row low line : List ℤ) → nat_eq (l.columns.taken % 2) 0 ≡ pair → l.deep ≡ true → IsLevel l → HoldsRows p l → l.columns.taken ≡ l.columns.height → 2 ≤ l.columns.height → IsSameLevel l n
-    → IsGiven p l row → IsSplitOff row low l.hl.items n.hl.items → length line ≡ l.columns.width → Shows line (high_rows l.columns.height p (high_count l.columns.height - 1)) → IsLastSplit pair line l n → HoldsBands p n
-last_bands p l n true row low line is deep s h all two same given split wide shown last =
+pub last_bands : (start : ℕ) (p : ℕ → ℕ → ℤ) (l n : Level) (pair : Bool) (row low line : List ℤ) → nat_eq (l.columns.taken % 2) 0 ≡ pair → l.deep ≡ true → IsLevel l → HoldsRows start p l → l.columns.taken ≡ l.columns.height → 2 ≤ l.columns.height → IsSameLevel l n
+    → IsGiven p l row → IsSplitOff row low l.hl.items n.hl.items → length line ≡ l.columns.width → Shows line (high_rows l.columns.height p (high_count l.columns.height - 1)) → IsLastSplit pair line l n → HoldsBands start p n
+last_bands start p l n true row low line is deep s h all two same given split wide shown last =
     let even : l.columns.taken % 2 ≡ 0 = eqb-true (l.columns.taken % 2) 0 is in
-    deep_bands p l n row low line (high_count l.columns.height - 1) deep s h same given split wide (omega (arith, all, two, even)) shown (last.more refl)
-last_bands p l n false row low line is deep s h all two same given split wide shown last = flat_bands p l n row low h same (last.lh refl) (last.hh refl) given split
+    deep_bands start p l n row low line (high_count l.columns.height - 1) deep s h same given split wide (omega (arith, all, two, even)) shown (last.more refl)
+last_bands start p l n false row low line is deep s h all two same given split wide shown last = flat_bands start p l n row low h same (last.lh refl) (last.hh refl) given split
 
 pub last_counts : (l n : Level) (pair : Bool) (row low line : List ℤ) → nat_eq (l.columns.taken % 2) 0 ≡ pair → l.deep ≡ true → IsLevel l → l.columns.taken ≡ l.columns.height → 2 ≤ l.columns.height → IsSameLevel l n
     → IsSplitOff row low l.hl.items n.hl.items → IsLastSplit pair line l n → HasAllRows n

@@ -6,7 +6,7 @@ use Rattle.std.proofs.Math.Seq.{get_or-append_seam}
 use Rattle.xs_signal.specs.Wavelet.{Split, low_count, low_count_at, low_part}
 use Rattle.xs_signal.specs.Stripe.{IsSplit, rows_at}
 use Rattle.xs_splitter.specs.Level.{IsLevel, HoldsRows}
-use Rattle.xs_splitter.specs.Chain.{split_by, bits_at, IsLevelAt, EachLevel, AreChained, HoldPlane}
+use Rattle.xs_splitter.specs.Chain.{split_by, rows_beside, bits_at, IsLevelAt, EachLevel, AreChained, HoldPlane}
 use Rattle.xs_splitter.specs.declared.level.Level.{Level}
 use Rattle.xs_splitter.specs.declared.level.LevelShape.{LevelShape}
 use Rattle.xs_splitter.specs.declared.splitter.SplitShape.{SplitShape}
@@ -20,7 +20,7 @@ pub record IsBuilt (shape : SplitShape) (level : ℕ) (next : LevelShape) (level
   pub bits : next.bits ≡ bits_at (split_by shape) level
   pub deep : next.deep ≡ nat_lt level shape.down
   pub each : EachLevel 0 level levels (λ i l. IsLevelAt (split_by shape) i 0 l)
-  pub holds : EachLevel 0 level levels (λ i l. (p : ℕ → ℕ → ℤ) → HoldsRows p l)
+  pub holds : EachLevel 0 level levels (λ i l. (p : ℕ → ℕ → ℤ) (start : ℕ) → HoldsRows start p l)
 
 pub each_more : (levels : List Level) (new : Level) (P : ℕ → Level → Type 0) (end : ℕ) → length levels ≡ end → EachLevel 0 end levels P → P end new → EachLevel 0 (end + 1) (levels ++ new ∷ []) P
 each_more levels new P end many old here i other from to =
@@ -46,7 +46,7 @@ pub record IsNew (shape : LevelShape) (l : Level) : Type 0 where
   pub bits : l.columns.bits ≡ shape.bits
   pub deep : l.deep ≡ shape.deep
   pub taken : l.columns.taken ≡ 0
-  pub holds : (p : ℕ → ℕ → ℤ) → HoldsRows p l
+  pub holds : (p : ℕ → ℕ → ℤ) (start : ℕ) → HoldsRows start p l
 
 pub built_more : (shape : SplitShape) (level : ℕ) (next after : LevelShape) (levels more : List Level) (l : Level) → IsBuilt shape level next levels → IsNew next l → more ≡ levels ++ l ∷ []
     → after.width ≡ low_count next.width → after.height ≡ (if next.deep then low_count next.height else next.height) → after.bits ≡ next.bits + (if next.deep then 2 else 1) → after.deep ≡ nat_lt (level + 1) shape.down
@@ -62,7 +62,7 @@ built_more shape level next after levels more l b new added width height bits de
       bits = bits ∙ ap (λ k. k + (if next.deep then 2 else 1)) b.bits ∙ ap (λ d. bits_at s level + (if d then 2 else 1)) b.deep ∙ bits_cases s level (nat_lt level shape.down) refl ∙ ap (bits_at s) one;
       deep = deep;
       each = subst (λ xs. EachLevel 0 (level + 1) xs (λ i x. IsLevelAt s i 0 x)) (sym added) (each_more levels l (λ i x. IsLevelAt s i 0 x) level b.many b.each at);
-      holds = subst (λ xs. EachLevel 0 (level + 1) xs (λ i x. (p : ℕ → ℕ → ℤ) → HoldsRows p x)) (sym added) (each_more levels l (λ i x. (p : ℕ → ℕ → ℤ) → HoldsRows p x) level b.many b.holds new.holds);
+      holds = subst (λ xs. EachLevel 0 (level + 1) xs (λ i x. (p : ℕ → ℕ → ℤ) (start : ℕ) → HoldsRows start p x)) (sym added) (each_more levels l (λ i x. (p : ℕ → ℕ → ℤ) (start : ℕ) → HoldsRows start p x) level b.many b.holds new.holds);
     }
 
 pub built_chain : (shape : SplitShape) (level : ℕ) (next : LevelShape) (levels : List Level) → IsBuilt shape level next levels → level ≡ shape.across → IsSplit (split_by shape) → (shape.across ≤ 5) × (shape.down ≤ 2) → AreChained (split_by shape) 0 0 levels []
@@ -76,8 +76,8 @@ built_chain shape level next levels b all split few =
       given = sym (none_taken s 0 shape.across);
     }
 
-pub built_plane : (shape : SplitShape) (level : ℕ) (next : LevelShape) (levels : List Level) (p : ℕ → ℕ → ℤ) → IsBuilt shape level next levels → level ≡ shape.across → HoldPlane (split_by shape) 0 p levels []
-built_plane shape level next levels p b all = record {
-  each = λ i other from to. b.holds i other from (subst (λ k. i < k) (sym all) to) (low_part (split_by shape) p i);
-  lowest = record { wide = λ row inside. absurd (omega (arith, inside)); shown = λ row inside. absurd (omega (arith, inside)) };
+pub built_plane : (shape : SplitShape) (start level : ℕ) (next : LevelShape) (levels : List Level) (p : ℕ → ℕ → ℤ) → IsBuilt shape level next levels → level ≡ shape.across → HoldPlane (split_by shape) 0 start p levels []
+built_plane shape start level next levels p b all = record {
+  each = λ i other from to. b.holds i other from (subst (λ k. i < k) (sym all) to) (low_part (split_by shape) p i) (rows_beside (split_by shape) i start);
+  lowest = record { wide = λ row above inside. absurd (omega (arith, inside)); shown = λ row above inside. absurd (omega (arith, inside)) };
 }

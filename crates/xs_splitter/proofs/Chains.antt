@@ -8,7 +8,7 @@ use Rattle.xs_signal.specs.Wavelet.{Split, low_count, low_count_at, low_of, colu
 use Rattle.xs_signal.specs.Stripe.{rows_at}
 use Rattle.xs_splitter.specs.Columns.{HasOneMore, low_rows}
 use Rattle.xs_splitter.specs.Level.{IsLevel, HoldsRows, ShowRows, kept_rows, given_rows, known_rows}
-use Rattle.xs_splitter.specs.Chain.{split_of, taken_at, bits_at, IsLevelAt, EachLevel, IsChain, AreChained, HoldsPlane, HoldPlane, IsSameBefore, IsNextRow}
+use Rattle.xs_splitter.specs.Chain.{split_of, rows_beside, taken_at, bits_at, IsLevelAt, EachLevel, IsChain, AreChained, HoldsPlane, HoldPlane, IsSameBefore, IsNextRow}
 use Rattle.xs_splitter.specs.declared.level.Level.{Level}
 use Rattle.xs_splitter.specs.declared.splitter.Splitter.{Splitter}
 use Rattle.xs_splitter.proofs.Bands.{rows_added, one_added}
@@ -119,8 +119,8 @@ pub record IsMidway (first place level : ℕ) (old now : Splitter) (begun row : 
   pub next : taken_at (split_of old) first (place + 1) level ≡ taken_at (split_of old) first place level + 1
   pub room : taken_at (split_of old) first place level < rows_at (split_of old) level
   pub fits : IsNextRow (split_of old) level row
-  pub holds : (p : ℕ → ℕ → ℤ) → HoldsPlane first p old → Shows begun (low_part (split_of old) p first place) → EachLevel first old.across now.levels.items (λ i l. HoldsRows (low_part (split_of old) p i) l)
-  pub shows : (p : ℕ → ℕ → ℤ) → HoldsPlane first p old → Shows begun (low_part (split_of old) p first place) → Shows row (low_part (split_of old) p level (taken_at (split_of old) first place level))
+  pub holds : (p : ℕ → ℕ → ℤ) (start : ℕ) → HoldsPlane first start p old → Shows begun (low_part (split_of old) p first place) → EachLevel first old.across now.levels.items (λ i l. HoldsRows (rows_beside (split_of old) i start) (low_part (split_of old) p i) l)
+  pub shows : (p : ℕ → ℕ → ℤ) (start : ℕ) → HoldsPlane first start p old → Shows begun (low_part (split_of old) p first place) → Shows row (low_part (split_of old) p level (taken_at (split_of old) first place level))
 
 pub midway_first : (first place : ℕ) (old : Splitter) (row : List ℤ) → IsChain first place old → first ≤ old.across → place < rows_at (split_of old) first → IsNextRow (split_of old) first row → IsMidway first place first old old row row
 midway_first first place old row chain inside room next =
@@ -137,8 +137,8 @@ midway_first first place old row chain inside room next =
       next = taken_first s first (place + 1) ∙ ap (λ k. k + 1) (sym here);
       room = subst (λ k. k < rows_at s first) (sym here) room;
       fits = next;
-      holds = λ p held shown. held.each;
-      shows = λ p held shown. subst (λ k. Shows row (low_part s p first k)) (sym here) shown;
+      holds = λ p start held shown. held.each;
+      shows = λ p start held shown. subst (λ k. Shows row (low_part s p first k)) (sym here) shown;
     }
 
 -- what the next level's taking of the row says
@@ -146,24 +146,24 @@ pub record IsTaken (row : List ℤ) (l n : Level) : Type 0 where
   pub more : HasOneMore l.columns n.columns
   pub deep : n.deep ≡ l.deep
   pub state : IsLevel n
-  pub holds : (p : ℕ → ℕ → ℤ) → HoldsRows p l → Shows row (p l.columns.taken) → HoldsRows p n
+  pub holds : (p : ℕ → ℕ → ℤ) (start : ℕ) → HoldsRows start p l → Shows row (p l.columns.taken) → HoldsRows start p n
 
 level_here : (first place level : ℕ) (old now : Splitter) (begun row : List ℤ) (l : Level) → IsMidway first place level old now begun row → level < old.across → l ≡ get_or now.levels.items level l → IsLevelAt (split_of old) level (taken_at (split_of old) first place level) l
 level_here first place level old now begun row l m less value = subst (λ x. IsLevelAt (split_of old) level (taken_at (split_of old) first place level) x) (sym value) (m.rest level l (omega arith) less)
 
-taken_here : (first place level : ℕ) (old now : Splitter) (begun row : List ℤ) (l n : Level) (p : ℕ → ℕ → ℤ) → IsMidway first place level old now begun row → level < old.across → l ≡ get_or now.levels.items level l → IsTaken row l n
-    → HoldsPlane first p old → Shows begun (low_part (split_of old) p first place) → HoldsRows (low_part (split_of old) p level) n
-taken_here first place level old now begun row l n p m less value taken held shown =
+taken_here : (first place level : ℕ) (old now : Splitter) (begun row : List ℤ) (l n : Level) (p : ℕ → ℕ → ℤ) (start : ℕ) → IsMidway first place level old now begun row → level < old.across → l ≡ get_or now.levels.items level l → IsTaken row l n
+    → HoldsPlane first start p old → Shows begun (low_part (split_of old) p first place) → HoldsRows (rows_beside (split_of old) level start) (low_part (split_of old) p level) n
+taken_here first place level old now begun row l n p start m less value taken held shown =
     let s = split_of old in
     let at = level_here first place level old now begun row l m less value in
-    taken.holds (low_part s p level) (subst (λ x. HoldsRows (low_part s p level) x) (sym value) (m.holds p held shown level l m.from less)) (subst (λ k. Shows row (low_part s p level k)) (sym at.taken) (m.shows p held shown))
+    taken.holds (low_part s p level) (rows_beside s level start) (subst (λ x. HoldsRows (rows_beside s level start) (low_part s p level) x) (sym value) (m.holds p start held shown level l m.from less)) (subst (λ k. Shows row (low_part s p level k)) (sym at.taken) (m.shows p start held shown))
 
-held_here : (first place level : ℕ) (old now : Splitter) (begun row : List ℤ) (l n : Level) (p : ℕ → ℕ → ℤ) → IsMidway first place level old now begun row → level < old.across → l ≡ get_or now.levels.items level l → IsTaken row l n
-    → HoldsPlane first p old → Shows begun (low_part (split_of old) p first place) → EachLevel first old.across (set now.levels.items level n) (λ i x. HoldsRows (low_part (split_of old) p i) x)
-held_here first place level old now begun row l n p m less value taken held shown =
+held_here : (first place level : ℕ) (old now : Splitter) (begun row : List ℤ) (l n : Level) (p : ℕ → ℕ → ℤ) (start : ℕ) → IsMidway first place level old now begun row → level < old.across → l ≡ get_or now.levels.items level l → IsTaken row l n
+    → HoldsPlane first start p old → Shows begun (low_part (split_of old) p first place) → EachLevel first old.across (set now.levels.items level n) (λ i x. HoldsRows (rows_beside (split_of old) i start) (low_part (split_of old) p i) x)
+held_here first place level old now begun row l n p start m less value taken held shown =
     let many = m.many in
-    each_set now.levels.items level first old.across n (λ i x. HoldsRows (low_part (split_of old) p i) x) (omega (arith, less, many)) (taken_here first place level old now begun row l n p m less value taken held shown)
-    (λ i other from to ne. m.holds p held shown i other from to)
+    each_set now.levels.items level first old.across n (λ i x. HoldsRows (rows_beside (split_of old) i start) (low_part (split_of old) p i) x) (omega (arith, less, many)) (taken_here first place level old now begun row l n p start m less value taken held shown)
+    (λ i other from to ne. m.holds p start held shown i other from to)
 
 same_here : (first level : ℕ) (old now new : Splitter) (n : Level) → first ≤ level → IsSameBefore first old now → split_of new ≡ split_of now → new.taken ≡ now.taken → new.levels.items ≡ set now.levels.items level n → IsSameBefore first old new
 same_here first level old now new n from same split taken levels = record {
@@ -178,7 +178,7 @@ same_here first level old now new n from same split taken levels = record {
 pub midway_more : (first place level : ℕ) (old now new : Splitter) (begun row low : List ℤ) (l n : Level) → IsMidway first place level old now begun row → level < old.across → l ≡ get_or now.levels.items level l → IsTaken row l n
     → split_of new ≡ split_of now → new.taken ≡ now.taken → new.low ≡ now.low → new.levels.items ≡ set now.levels.items level n
     → length n.hl.items ≡ length l.hl.items + 1 → length low ≡ low_count l.columns.width → AllBelow (2 ^ (l.columns.bits + (if l.deep then 2 else 1))) (entries_of low)
-    → ((p : ℕ → ℕ → ℤ) → HoldsRows p l → Shows row (p l.columns.taken) → Shows low (given_rows l p (length l.hl.items))) → IsMidway first place (suc level) old new begun low
+    → ((p : ℕ → ℕ → ℤ) (start : ℕ) → HoldsRows start p l → Shows row (p l.columns.taken) → Shows low (given_rows l p (length l.hl.items))) → IsMidway first place (suc level) old new begun low
 midway_more first place level old now new begun row low l n m less value taken split count lows levels added wide small shows =
     let s = split_of old in
     let at = level_here first place level old now begun row l m less value in
@@ -202,15 +202,15 @@ midway_more first place level old now new begun row low l n m less value taken s
       next = sym later ∙ added ∙ ap (λ k. k + 1) given;
       room = room_next s first place level m.from m.room;
       fits = next_row s level (taken_at s first place level) l low at wide small;
-      holds = λ p held shown. subst (λ xs. EachLevel first old.across xs (λ i x. HoldsRows (low_part s p i) x)) (sym levels) (held_here first place level old now begun row l n p m less value taken held shown);
-      shows = λ p held shown. given_part s level (taken_at s first place level) (taken_at s first place (suc level)) p l low at (sym given)
-          (shows (low_part s p level) (subst (λ x. HoldsRows (low_part s p level) x) (sym value) (m.holds p held shown level l m.from less)) (subst (λ k. Shows row (low_part s p level k)) (sym at.taken) (m.shows p held shown)));
+      holds = λ p start held shown. subst (λ xs. EachLevel first old.across xs (λ i x. HoldsRows (rows_beside s i start) (low_part s p i) x)) (sym levels) (held_here first place level old now begun row l n p start m less value taken held shown);
+      shows = λ p start held shown. given_part s level (taken_at s first place level) (taken_at s first place (suc level)) p l low at (sym given)
+          (shows (low_part s p level) (rows_beside s level start) (subst (λ x. HoldsRows (rows_beside s level start) (low_part s p level) x) (sym value) (m.holds p start held shown level l m.from less)) (subst (λ k. Shows row (low_part s p level k)) (sym at.taken) (m.shows p start held shown)));
     }
 
 pub midway_next : (first place level : ℕ) (old now new : Splitter) (begun row low : List ℤ) (l n : Level) → IsMidway first place level old now begun row → level < old.across → l ≡ get_or now.levels.items level l → IsTaken row l n
     → split_of new ≡ split_of now → new.taken ≡ now.taken → new.low ≡ now.low → new.levels.items ≡ set now.levels.items level n
     → length n.hl.items ≡ length l.hl.items + 1 → length low ≡ low_count l.columns.width → AllBelow (2 ^ (l.columns.bits + (if l.deep then 2 else 1))) (entries_of low)
-    → ((p : ℕ → ℕ → ℤ) → HoldsRows p l → Shows row (p l.columns.taken) → Shows low (given_rows l p (length l.hl.items))) → IsMidway first place (level + 1) old new begun low
+    → ((p : ℕ → ℕ → ℤ) (start : ℕ) → HoldsRows start p l → Shows row (p l.columns.taken) → Shows low (given_rows l p (length l.hl.items))) → IsMidway first place (level + 1) old new begun low
 midway_next first place level old now new begun row low l n m less value taken split count lows levels added wide small shows =
     let one : suc level ≡ level + 1 = omega arith in
     subst (λ k. IsMidway first place k old new begun low) one (midway_more first place level old now new begun row low l n m less value taken split count lows levels added wide small shows)
@@ -244,13 +244,13 @@ stopped first place level old now new begun row l n m less value taken split low
 pub stopped_same : (first place level : ℕ) (old now new : Splitter) (begun row : List ℤ) (n : Level) → IsMidway first place level old now begun row → split_of new ≡ split_of now → new.taken ≡ now.taken → new.levels.items ≡ set now.levels.items level n → IsSameBefore first old new
 stopped_same first place level old now new begun row n m split count levels = same_here first level old now new n m.from m.same split count levels
 
-pub stopped_holds : (first place level : ℕ) (old now new : Splitter) (begun row : List ℤ) (l n : Level) (p : ℕ → ℕ → ℤ) → IsMidway first place level old now begun row → level < old.across → l ≡ get_or now.levels.items level l → IsTaken row l n
-    → split_of new ≡ split_of now → new.low ≡ now.low → new.levels.items ≡ set now.levels.items level n → HoldsPlane first p old → Shows begun (low_part (split_of old) p first place) → HoldsPlane first p new
-stopped_holds first place level old now new begun row l n p m less value taken split lows levels held shown =
+pub stopped_holds : (first place level : ℕ) (old now new : Splitter) (begun row : List ℤ) (l n : Level) (p : ℕ → ℕ → ℤ) (start : ℕ) → IsMidway first place level old now begun row → level < old.across → l ≡ get_or now.levels.items level l → IsTaken row l n
+    → split_of new ≡ split_of now → new.low ≡ now.low → new.levels.items ≡ set now.levels.items level n → HoldsPlane first start p old → Shows begun (low_part (split_of old) p first place) → HoldsPlane first start p new
+stopped_holds first place level old now new begun row l n p start m less value taken split lows levels held shown =
     let s = split_of old in
-    subst (λ t. HoldPlane t first p new.levels.items new.low.items) (sym (split ∙ m.same.split)) (record {
-      each = subst (λ xs. EachLevel first old.across xs (λ i x. HoldsRows (low_part s p i) x)) (sym levels) (held_here first place level old now begun row l n p m less value taken held shown);
-      lowest = subst (λ v. ShowRows (low_count_at s.width s.across) v.items (low_part s p old.across)) (sym (lows ∙ m.low)) held.lowest;
+    subst (λ t. HoldPlane t first start p new.levels.items new.low.items) (sym (split ∙ m.same.split)) (record {
+      each = subst (λ xs. EachLevel first old.across xs (λ i x. HoldsRows (rows_beside s i start) (low_part s p i) x)) (sym levels) (held_here first place level old now begun row l n p start m less value taken held shown);
+      lowest = subst (λ v. ShowRows start (low_count_at s.width s.across) v.items (low_part s p old.across)) (sym (lows ∙ m.low)) held.lowest;
     })
 
 -- the last level gives a row
@@ -275,16 +275,16 @@ ended_same first place level old now new begun row m split count levels = record
   before = λ i other less. ap (λ v. get_or v.items i other) levels ∙ m.same.before i other less;
 }
 
-pub ended_holds : (first place level : ℕ) (old now new : Splitter) (begun row : List ℤ) (p : ℕ → ℕ → ℤ) → IsMidway first place level old now begun row → level ≡ old.across → split_of new ≡ split_of now → new.levels ≡ now.levels → new.low.items ≡ now.low.items ++ row ∷ []
-    → IsChain first place old → HoldsPlane first p old → Shows begun (low_part (split_of old) p first place) → HoldsPlane first p new
-ended_holds first place level old now new begun row p m all split levels lows chain held shown =
+pub ended_holds : (first place level : ℕ) (old now new : Splitter) (begun row : List ℤ) (p : ℕ → ℕ → ℤ) (start : ℕ) → IsMidway first place level old now begun row → level ≡ old.across → split_of new ≡ split_of now → new.levels ≡ now.levels → new.low.items ≡ now.low.items ++ row ∷ []
+    → IsChain first place old → HoldsPlane first start p old → Shows begun (low_part (split_of old) p first place) → HoldsPlane first start p new
+ended_holds first place level old now new begun row p start m all split levels lows chain held shown =
     let s = split_of old in
     let more : new.low.items ≡ old.low.items ++ row ∷ [] = lows ∙ ap (λ v. v.items ++ row ∷ []) m.low in
     let last : taken_at s first place level ≡ length old.low.items = sym (chain.given ∙ ap (taken_at s first place) (sym all)) in
-    let seen : Shows row (low_part s p old.across (length old.low.items)) = subst (λ k. Shows row (low_part s p old.across k)) last (subst (λ k. Shows row (low_part s p k (taken_at s first place level))) all (m.shows p held shown)) in
-    subst (λ t. HoldPlane t first p new.levels.items new.low.items) (sym (split ∙ m.same.split)) (record {
-      each = subst (λ v. EachLevel first old.across v.items (λ i x. HoldsRows (low_part s p i) x)) (sym levels) (m.holds p held shown);
-      lowest = rows_added (low_count_at s.width s.across) old.low.items new.low.items row (low_part s p old.across) more held.lowest (m.fits.wide ∙ ap (low_count_at s.width) all) seen;
+    let seen : Shows row (low_part s p old.across (length old.low.items)) = subst (λ k. Shows row (low_part s p old.across k)) last (subst (λ k. Shows row (low_part s p k (taken_at s first place level))) all (m.shows p start held shown)) in
+    subst (λ t. HoldPlane t first start p new.levels.items new.low.items) (sym (split ∙ m.same.split)) (record {
+      each = subst (λ v. EachLevel first old.across v.items (λ i x. HoldsRows (rows_beside s i start) (low_part s p i) x)) (sym levels) (m.holds p start held shown);
+      lowest = rows_added start (low_count_at s.width s.across) old.low.items new.low.items row (low_part s p old.across) more held.lowest (m.fits.wide ∙ ap (low_count_at s.width) all) seen;
     })
 
 -- ---- before the first row

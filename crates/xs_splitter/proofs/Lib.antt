@@ -4,3 +4,4 @@ pub mod Chains
 pub mod Built
 pub mod Finishing
 pub mod Shown
+pub mod Forgotten

@@ -1,9 +1,9 @@
 -- The levels of a component's split, one after the other: '5/3 wavelet'.
-use Rattle.std.specs.Prelude.{◌≡◌, ℕ, zero, suc, ◌+◌, ◌^◌, ◌<◌, ◌≤◌, min, List, length, slice_index_or, ℤ, nat_lt, if◌then◌else◌}
+use Rattle.std.specs.Prelude.{◌≡◌, ℕ, zero, suc, ◌+◌, ◌-◌, ◌*◌, ◌^◌, ◌<◌, ◌≤◌, min, List, length, slice_index_or, ℤ, nat_lt, if◌then◌else◌}
 use Rattle.xs_signal.specs.Lines.{entries_of, AllBelow}
 use Rattle.xs_signal.specs.Wavelet.{Split, low_count_at, low_part}
 use Rattle.xs_signal.specs.Stripe.{IsSplit, rows_at}
-use Rattle.xs_splitter.specs.Level.{IsLevel, HoldsRows, HoldsBands, HasAllRows, ShowRows, known_rows}
+use Rattle.xs_splitter.specs.Level.{IsLevel, HoldsRows, HoldsBands, HasAllRows, HasGivenUp, AreGivenUp, ShowRows, known_rows}
 use Rattle.xs_splitter.specs.declared.level.Level.{Level}
 use Rattle.xs_splitter.specs.declared.splitter.SplitShape.{SplitShape}
 use Rattle.xs_splitter.specs.declared.splitter.Splitter.{Splitter}
@@ -49,13 +49,18 @@ pub record AreChained (s : Split) (first taken : ℕ) (levels : List Level) (low
 abbrev pub IsChain : ℕ → ℕ → Splitter → Type 0
 IsChain first taken c = AreChained (split_of c) first taken c.levels.items c.low.items
 
--- the levels from `first` on hold the rows of plane p, each those of the part that it splits
-pub record HoldPlane (s : Split) (first : ℕ) (p : ℕ → ℕ → ℤ) (levels : List Level) (low : List (List ℤ)) : Type 0 where
-  pub each : EachLevel first s.across levels (λ level l. HoldsRows (low_part s p level) l)
-  pub lowest : ShowRows (low_count_at s.width s.across) low (low_part s p s.across)
+-- how many rows of a level's bands stand beside so many of the lowest band
+abbrev pub rows_beside : Split → ℕ → ℕ → ℕ
+rows_beside s level count = count * 2 ^ (s.down - min (level + 1) s.down)
 
-abbrev pub HoldsPlane : ℕ → (ℕ → ℕ → ℤ) → Splitter → Type 0
-HoldsPlane first p c = HoldPlane (split_of c) first p c.levels.items c.low.items
+-- the levels from `first` on hold the rows of plane p beside those of the lowest band from `from` on, each those of the
+-- part that it splits
+pub record HoldPlane (s : Split) (first from : ℕ) (p : ℕ → ℕ → ℤ) (levels : List Level) (low : List (List ℤ)) : Type 0 where
+  pub each : EachLevel first s.across levels (λ level l. HoldsRows (rows_beside s level from) (low_part s p level) l)
+  pub lowest : ShowRows from (low_count_at s.width s.across) low (low_part s p s.across)
+
+abbrev pub HoldsPlane : ℕ → ℕ → (ℕ → ℕ → ℤ) → Splitter → Type 0
+HoldsPlane first from p c = HoldPlane (split_of c) first from p c.levels.items c.low.items
 
 -- a splitter of the same component, whose levels before `first` are as they were
 pub record IsSameBefore (first : ℕ) (old new : Splitter) : Type 0 where
@@ -85,7 +90,15 @@ pub record HaveAll (s : Split) (levels : List Level) (low : List (List ℤ)) : T
 abbrev pub HasAll : Splitter → Type 0
 HasAll c = HaveAll (split_of c) c.levels.items c.low.items
 
--- the levels hold the first rows of the bands of plane p, and the rows that are low in both directions at the last level
-pub record HoldBands (s : Split) (p : ℕ → ℕ → ℤ) (levels : List Level) (low : List (List ℤ)) : Type 0 where
-  pub each : EachLevel 0 s.across levels (λ level l. HoldsBands (low_part s p level) l)
-  pub lowest : ShowRows (low_count_at s.width s.across) low (low_part s p s.across)
+-- the levels hold the first rows of the bands of plane p, and the rows that are low in both directions at the last level,
+-- of these those from `from` on
+pub record HoldBands (s : Split) (from : ℕ) (p : ℕ → ℕ → ℤ) (levels : List Level) (low : List (List ℤ)) : Type 0 where
+  pub each : EachLevel 0 s.across levels (λ level l. HoldsBands (rows_beside s level from) (low_part s p level) l)
+  pub lowest : ShowRows from (low_count_at s.width s.across) low (low_part s p s.across)
+
+-- the rows of the lowest band from one on up to another were given up, and those that stand beside them
+pub record HasForgotten (first end : ℕ) (old new : Splitter) : Type 0 where
+  pub many : length new.levels.items ≡ length old.levels.items
+  pub each : (level : ℕ) (other : Level) → level < length old.levels.items
+      → HasGivenUp (rows_beside (split_of old) level first) (rows_beside (split_of old) level end) (slice_index_or old.levels.items level other) (slice_index_or new.levels.items level other)
+  pub lowest : AreGivenUp first end old.low.items new.low.items

@@ -14,21 +14,21 @@ kept_rows l p = if l.deep then low_rows l.columns.height p else p
 abbrev pub given_rows : Level → (ℕ → ℕ → ℤ) → ℕ → ℕ → ℤ
 given_rows l p row = low_of l.columns.width (kept_rows l p row)
 
--- the rows of the list are the first rows of the plane, in so many columns
-pub record ShowRows (width : ℕ) (rows : List (List ℤ)) (q : ℕ → ℕ → ℤ) : Type 0 where
-  pub wide : (row : ℕ) → row < length rows → length (slice_index_or rows row []) ≡ width
-  pub shown : (row : ℕ) → row < length rows → Shows (slice_index_or rows row []) (q row)
+-- the rows of the list from one on are those of the plane, in so many columns
+pub record ShowRows (from width : ℕ) (rows : List (List ℤ)) (q : ℕ → ℕ → ℤ) : Type 0 where
+  pub wide : (row : ℕ) → from ≤ row → row < length rows → length (slice_index_or rows row []) ≡ width
+  pub shown : (row : ℕ) → from ≤ row → row < length rows → Shows (slice_index_or rows row []) (q row)
 
--- a level holds the first rows of the bands of plane p
-pub record HoldsBands (p : ℕ → ℕ → ℤ) (l : Level) : Type 0 where
-  pub hl : ShowRows (high_count l.columns.width) l.hl.items (λ row. high_of l.columns.width (kept_rows l p row))
-  pub lh : ShowRows (low_count l.columns.width) l.lh.items (λ row. low_of l.columns.width (high_rows l.columns.height p row))
-  pub hh : ShowRows (high_count l.columns.width) l.hh.items (λ row. high_of l.columns.width (high_rows l.columns.height p row))
+-- a level holds the first rows of the bands of plane p, from one on
+pub record HoldsBands (from : ℕ) (p : ℕ → ℕ → ℤ) (l : Level) : Type 0 where
+  pub hl : ShowRows from (high_count l.columns.width) l.hl.items (λ row. high_of l.columns.width (kept_rows l p row))
+  pub lh : ShowRows from (low_count l.columns.width) l.lh.items (λ row. low_of l.columns.width (high_rows l.columns.height p row))
+  pub hh : ShowRows from (high_count l.columns.width) l.hh.items (λ row. high_of l.columns.width (high_rows l.columns.height p row))
 
 -- and where it is split down, the last of the plane's first rows
-pub record HoldsRows (p : ℕ → ℕ → ℤ) (l : Level) : Type 0 where
+pub record HoldsRows (from : ℕ) (p : ℕ → ℕ → ℤ) (l : Level) : Type 0 where
   pub last : l.deep ≡ true → HoldsLast p l.columns
-  pub bands : HoldsBands p l
+  pub bands : HoldsBands from p l
 
 -- how many low-pass and high-pass rows are known after so many rows, while there are more to come
 abbrev pub known_rows : ℕ → ℕ
@@ -67,3 +67,18 @@ pub record HasAllRows (l : Level) : Type 0 where
   pub hl : length l.hl.items ≡ low_count l.columns.height
   pub lh : length l.lh.items ≡ high_count l.columns.height
   pub hh : length l.hh.items ≡ high_count l.columns.height
+
+-- the rows of a list from one on up to another are empty, and the others as they were
+pub record AreGivenUp (first end : ℕ) (old new : List (List ℤ)) : Type 0 where
+  pub many : length new ≡ length old
+  pub empty : (row : ℕ) → first ≤ row → row < end → slice_index_or new row [] ≡ []
+  pub before : (row : ℕ) → row < first → slice_index_or new row [] ≡ slice_index_or old row []
+  pub after : (row : ℕ) → end ≤ row → slice_index_or new row [] ≡ slice_index_or old row []
+
+-- those of each band of a level
+pub record HasGivenUp (first end : ℕ) (old new : Level) : Type 0 where
+  pub columns : new.columns ≡ old.columns
+  pub deep : new.deep ≡ old.deep
+  pub hl : AreGivenUp first end old.hl.items new.hl.items
+  pub lh : AreGivenUp first end old.lh.items new.lh.items
+  pub hh : AreGivenUp first end old.hh.items new.hh.items

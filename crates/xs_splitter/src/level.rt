@@ -5,7 +5,7 @@ ghost use Rattle.xs_signal.specs.Wavelet.{low_count};
 ghost use Rattle.xs_splitter.specs.Parts.{IsSplitOff};
 
 use crate::columns::Columns;
-use crate::row::Row;
+use crate::row::{Row, give_up};
 use std::alloc::Global;
 use xs_io::Memory;
 
@@ -53,7 +53,7 @@ impl LevelShape {
 
 impl Level {
     ghost use Rattle.xs_splitter.specs.Columns.{HasOneMore};
-    ghost use Rattle.xs_splitter.specs.Level.{IsLevel, IsHighSplit, IsLastSplit, IsSameLevel, HasAllRows, HoldsRows, HoldsBands, given_rows};
+    ghost use Rattle.xs_splitter.specs.Level.{IsLevel, IsHighSplit, IsLastSplit, IsSameLevel, HasAllRows, HoldsRows, HoldsBands, HasGivenUp, given_rows};
 
     // Before the first row.
     pub(crate) fn new(alloc: Global, shape: LevelShape) -> Result<Level, Memory>
@@ -61,7 +61,7 @@ impl Level {
         requires bits { shape.bits ≤ 26 }
         ensures state { IfOk result IsLevel }
         ensures shape { IfOk result (λ l. (l.columns.width ≡ shape.width) × (l.columns.height ≡ shape.height) × (l.columns.bits ≡ shape.bits) × (l.deep ≡ shape.deep) × (l.columns.taken ≡ 0)) }
-        ensures holds { (p : ℕ → ℕ → ℤ) → IfOk result (HoldsRows p) }
+        ensures holds { (p : ℕ → ℕ → ℤ) (from : ℕ) → IfOk result (HoldsRows from p) }
     {
         Ok(Level {
             columns: Columns::new(alloc, shape.width, shape.height, shape.bits)?,
@@ -82,8 +82,8 @@ impl Level {
         ensures deep { IfOk result (λ _. self.new.deep ≡ self.old.deep) }
         ensures state { IfOk result (λ _. IsLevel self.new) }
         ensures given { IfOk result (λ given. MatchOption given (length self.new.hl.items ≡ length self.old.hl.items) (λ low. (length self.new.hl.items ≡ length self.old.hl.items + 1) × (length low ≡ low_count self.old.columns.width) × AllBelow (2 ^ (self.old.columns.bits + (if self.old.deep then 2 else 1))) (entries_of low))) }
-        ensures holds { (p : ℕ → ℕ → ℤ) → HoldsRows p self.old → Shows row (p self.old.columns.taken) → IfOk result (λ _. HoldsRows p self.new) }
-        ensures shows { (p : ℕ → ℕ → ℤ) → HoldsRows p self.old → Shows row (p self.old.columns.taken) → IfOk result (λ given. IfSome given (λ low. Shows low (given_rows self.old p (length self.old.hl.items)))) }
+        ensures holds { (p : ℕ → ℕ → ℤ) (from : ℕ) → HoldsRows from p self.old → Shows row (p self.old.columns.taken) → IfOk result (λ _. HoldsRows from p self.new) }
+        ensures shows { (p : ℕ → ℕ → ℤ) (from : ℕ) → HoldsRows from p self.old → Shows row (p self.old.columns.taken) → IfOk result (λ given. IfSome given (λ low. Shows low (given_rows self.old p (length self.old.hl.items)))) }
     {
         if !self.deep {
             self.columns.count();
@@ -106,13 +106,22 @@ impl Level {
         ensures known { IfOk result (λ _. HasAllRows self.new) }
         ensures width { IfOk result (λ low. length low ≡ low_count self.old.columns.width) }
         ensures small { IfOk result (λ low. AllBelow (2 ^ (self.old.columns.bits + 2)) (entries_of low)) }
-        ensures holds { (p : ℕ → ℕ → ℤ) → HoldsRows p self.old → IfOk result (λ _. HoldsBands p self.new) }
-        ensures shows { (p : ℕ → ℕ → ℤ) → HoldsRows p self.old → IfOk result (λ low. Shows low (given_rows self.old p (length self.old.hl.items))) }
+        ensures holds { (p : ℕ → ℕ → ℤ) (from : ℕ) → HoldsRows from p self.old → IfOk result (λ _. HoldsBands from p self.new) }
+        ensures shows { (p : ℕ → ℕ → ℤ) (from : ℕ) → HoldsRows from p self.old → IfOk result (λ low. Shows low (given_rows self.old p (length self.old.hl.items))) }
     {
         let pair = self.columns.has_pair();
         self.columns.finish();
         self.split_last(alloc, pair)?;
         split_off(alloc, self.columns.even(), &mut self.hl)
+    }
+
+    // Gives up the rows of each band from one on up to another.
+    pub(crate) fn forget(&mut self, first: usize, end: usize)
+        ensures { HasGivenUp first end self.old self.new }
+    {
+        give_up(&mut self.hl, first, end);
+        give_up(&mut self.lh, first, end);
+        give_up(&mut self.hh, first, end);
     }
 
     pub(crate) fn hl_row(&self, row: usize) -> &[i32]

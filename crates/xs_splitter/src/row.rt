@@ -1,8 +1,9 @@
 //! A row of numbers that is kept.
-ghost use Rattle.std.specs.Prelude.{◌≡◌, ℕ, ℤ, pos, ◌+◌, ◌*◌, ◌≤◌, ◌^◌, ◌+ℤ◌, ◌-ℤ◌, length, IfOk};
+ghost use Rattle.std.specs.Prelude.{◌≡◌, ℕ, ℤ, pos, ◌+◌, ◌*◌, ◌≤◌, ◌^◌, ◌+ℤ◌, ◌-ℤ◌, [], length, IfOk};
 ghost use Rattle.std.specs.Int.{int_shr};
 ghost use Rattle.xs_signal.specs.Lines.{AllBelow, Shows, entries_of};
 ghost use Rattle.xs_splitter.specs.Parts.{AreParts};
+ghost use Rattle.xs_splitter.specs.Level.{AreGivenUp};
 
 use std::alloc::Global;
 use std::marker::Model;
@@ -40,6 +41,13 @@ impl Row {
     {
         let numbers = Vec::from_elem(alloc, 0, width).map_err(|_| Memory)?;
         Ok(Row { numbers })
+    }
+
+    // It becomes empty, and keeps no memory.
+    fn clear(&mut self)
+        ensures { self.new ≡ [] }
+    {
+        self.numbers = Vec::new(*self.numbers.allocator());
     }
 
     /// Its numbers.
@@ -98,5 +106,14 @@ impl Row {
             high.numbers.as_mut_slice(),
         );
         Ok((low, high))
+    }
+}
+
+// Rows of a list from one on up to another become empty. None moves.
+pub(crate) fn give_up(rows: &mut Vec<Row>, first: usize, end: usize)
+    ensures { AreGivenUp first end rows.old.items rows.new.items }
+{
+    'rows: for row in first..end.min(rows.len()) {
+        rows[row].clear();
     }
 }

@@ -5,7 +5,7 @@ ghost use Rattle.xs_signal.specs.Wavelet.{low_part};
 ghost use Rattle.xs_signal.specs.Stripe.{IsSplit, rows_at};
 
 use crate::level::{Level, LevelShape};
-use crate::row::Row;
+use crate::row::{Row, give_up};
 use std::alloc::Global;
 use xs_io::Memory;
 
@@ -32,7 +32,7 @@ pub struct Splitter {
 
 impl Splitter {
     ghost use Rattle.xs_splitter.specs.Shown.{IsRow, KnowsRow, hl_rows, lh_rows, hh_rows};
-    ghost use Rattle.xs_splitter.specs.Chain.{IsChain, IsNextRow, IsSameBefore, HasAll, HoldBands, HoldsPlane, split_by, split_of};
+    ghost use Rattle.xs_splitter.specs.Chain.{IsChain, IsNextRow, IsSameBefore, HasAll, HasForgotten, HoldBands, HoldsPlane, rows_beside, split_by, split_of};
 
     /// Before the first row.
     pub fn new(alloc: Global, shape: SplitShape) -> Result<Splitter, Memory>
@@ -40,7 +40,7 @@ impl Splitter {
         requires few { (shape.across ≤ 5) × (shape.down ≤ 2) }
         ensures chain { IfOk result (IsChain 0 0) }
         ensures shape { IfOk result (λ splitter. (split_of splitter ≡ split_by shape) × (splitter.taken ≡ 0)) }
-        ensures holds { (p : ℕ → ℕ → ℤ) → IfOk result (HoldsPlane 0 p) }
+        ensures holds { (p : ℕ → ℕ → ℤ) (from : ℕ) → IfOk result (HoldsPlane 0 from p) }
     {
         let mut levels = Vec::new(alloc);
         let mut next = LevelShape {
@@ -74,7 +74,7 @@ impl Splitter {
         ensures chain { IfOk result (λ _. IsChain 0 self.new.taken self.new) }
         ensures taken { IfOk result (λ _. self.new.taken ≡ self.old.taken + 1) }
         ensures same { IfOk result (λ _. split_of self.new ≡ split_of self.old) }
-        ensures holds { (p : ℕ → ℕ → ℤ) → HoldsPlane 0 p self.old → Shows row.now (p self.old.taken) → IfOk result (λ _. HoldsPlane 0 p self.new) }
+        ensures holds { (p : ℕ → ℕ → ℤ) (from : ℕ) → HoldsPlane 0 from p self.old → Shows row.now (p self.old.taken) → IfOk result (λ _. HoldsPlane 0 from p self.new) }
     {
         let place = self.taken;
         let row = Row::copied(alloc, row)?;
@@ -89,7 +89,7 @@ impl Splitter {
         requires all { self.old.taken ≡ self.old.height }
         ensures all { IfOk result (λ _. HasAll self.new) }
         ensures same { IfOk result (λ _. split_of self.new ≡ split_of self.old) }
-        ensures holds { (p : ℕ → ℕ → ℤ) → HoldsPlane 0 p self.old → IfOk result (λ _. HoldBands (split_of self.new) p self.new.levels.items self.new.low.items) }
+        ensures holds { (p : ℕ → ℕ → ℤ) (from : ℕ) → HoldsPlane 0 from p self.old → IfOk result (λ _. HoldBands (split_of self.new) from p self.new.levels.items self.new.low.items) }
     {
         let mut rows = self.taken;
         'levels: for level in 0..self.down as usize {
@@ -99,6 +99,37 @@ impl Splitter {
             rows = place + 1;
         }
         Ok(())
+    }
+
+    /// Gives up rows of the lowest band from one on up to another, and those that stand beside them in the levels above.
+    pub fn forget(&mut self, first: u32, end: u32)
+        requires few { self.old.down ≤ 2 }
+        ensures taken { self.new.taken ≡ self.old.taken }
+        ensures same { split_of self.new ≡ split_of self.old }
+        ensures rows { HasForgotten first end self.old self.new }
+        ensures chain { (k taken : ℕ) → IsChain k taken self.old → IsChain k taken self.new }
+        ensures all { HasAll self.old → HasAll self.new }
+        ensures holds { (p : ℕ → ℕ → ℤ) (from : ℕ) → end ≤ from → HoldsPlane 0 from p self.old → HoldsPlane 0 from p self.new }
+        ensures bands { (p : ℕ → ℕ → ℤ) (from : ℕ) → end ≤ from → HoldBands (split_of self.old) from p self.old.levels.items self.old.low.items → HoldBands (split_of self.new) from p self.new.levels.items self.new.low.items }
+    {
+        let first = first as usize;
+        let end = end as usize;
+        'levels: for level in 0..self.levels.len() {
+            let each = self.rows_each(level);
+            self.levels[level].forget(first * each, end * each);
+        }
+        give_up(&mut self.low, first, end);
+    }
+
+    // How many rows of a level's bands stand beside a row of the lowest band.
+    fn rows_each(&self, level: usize) -> usize
+        requires few { self.now.down ≤ 2 }
+        requires level { level < length self.now.levels.items }
+        ensures number { result ≡ rows_beside (split_of self.now) level 1 }
+        ensures few { result ≤ 4 }
+    {
+        let down = self.down as usize;
+        1 << (down - down.min(level + 1))
     }
 
     /// A row of the band that is low in both directions.
@@ -144,7 +175,7 @@ impl Splitter {
         requires row { IsNextRow (split_of self.old) first row }
         ensures chain { IfOk result (λ _. IsChain first (place + 1) self.new) }
         ensures same { IfOk result (λ _. IsSameBefore first self.old self.new) }
-        ensures holds { (p : ℕ → ℕ → ℤ) → HoldsPlane first p self.old → Shows row (low_part (split_of self.old) p first place) → IfOk result (λ _. HoldsPlane first p self.new) }
+        ensures holds { (p : ℕ → ℕ → ℤ) (from : ℕ) → HoldsPlane first from p self.old → Shows row (low_part (split_of self.old) p first place) → IfOk result (λ _. HoldsPlane first from p self.new) }
     {
         let mut row = row;
         'levels: for level in first..self.levels.len() {

@@ -27,7 +27,7 @@ returns-clause-small c =
     if_ok c.split_off.result _ _ (λ low off. two_bits_more l.columns.bits _ (low_part_below (2 * 2 ^ l.columns.bits) c.even.result.now low off.high (omega (arith, pow_pos l.columns.bits)) small off.parts)) c.split_off.ensures
 
 pub returns-clause-holds : goal.returns-clause-holds
-returns-clause-holds c p h =
+returns-clause-holds c p from h =
     let l = c.args.self.now in
     let s = c.requires.state in
     let f = c.finish.ensures in
@@ -40,13 +40,13 @@ returns-clause-holds c p h =
     let same : IsSameLevel l n = record { width = ap (λ m. m.width) k.0 ∙ f.kept.0; height = ap (λ m. m.height) k.0 ∙ f.kept.1; bits = ap (λ m. m.bits) k.0 ∙ f.kept.2; deep = k.1 } in
     let split = c.in_ok-split_last.ensures.split in
     if_ok c.split_off.result _ _
-    (λ low off. last_bands p l n c.has_pair-pair.result c.even.result.now low c.finish.new.self.high (sym c.has_pair-pair.ensures) c.requires.deep s h c.requires.all c.requires.two same given
+    (λ low off. last_bands from p l n c.has_pair-pair.result c.even.result.now low c.finish.new.self.high (sym c.has_pair-pair.ensures) c.requires.deep s h c.requires.all c.requires.two same given
     (subst (λ v. IsSplitOff c.even.result.now low v.items c.split_off.new.band.items) k.2 off) f.high_width (f.high p last)
     (record { more = λ e. let high = split.more e in record { low = high.low; split = high.split; added = high.added }; lh = split.lh; hh = split.hh }))
     c.split_off.ensures
 
 pub returns-clause-shows : goal.returns-clause-shows
-returns-clause-shows c p h =
+returns-clause-shows c p from h =
     let l = c.args.self.now in
     let s = c.requires.state in
     let f = c.finish.ensures in

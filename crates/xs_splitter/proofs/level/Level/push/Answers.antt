@@ -24,13 +24,13 @@ returns-then-not-self-clause-given c =
     (one_added _ _ split.high split.added, wide, bits_one l.columns.bits l.deep _ flat (low_part_below (2 ^ l.columns.bits) c.args.row _ split.high (pow_pos l.columns.bits) c.requires.small split.parts))
 
 pub returns-then-not-self-clause-holds : goal.returns-then-not-self-clause-holds
-returns-then-not-self-clause-holds c p h shown =
+returns-then-not-self-clause-holds c p from h shown =
     let l = c.args.self.now in
     let flat : l.deep ≡ false = grind (arith, c.if-not-self.true) in
-    flat_holds p l _ c.args.row c.in_ok-split_off.field-0 flat h c.count.ensures.more refl refl refl (flat_given p l c.args.row flat c.requires.state c.requires.width shown) c.in_ok-split_off.ensures
+    flat_holds from p l _ c.args.row c.in_ok-split_off.field-0 flat h c.count.ensures.more refl refl refl (flat_given p l c.args.row flat c.requires.state c.requires.width shown) c.in_ok-split_off.ensures
 
 pub returns-then-not-self-clause-shows : goal.returns-then-not-self-clause-shows
-returns-then-not-self-clause-shows c p h shown =
+returns-then-not-self-clause-shows c p from h shown =
     let l = c.args.self.now in
     let flat : l.deep ≡ false = grind (arith, c.if-not-self.true) in
     given_shown p l c.args.row c.in_ok-split_off.field-0 _ _ c.requires.state.two (flat_given p l c.args.row flat c.requires.state c.requires.width shown) c.in_ok-split_off.ensures
@@ -54,7 +54,7 @@ returns-clause-given c =
     (more, wide, bits_two l.columns.bits l.deep _ deep (low_part_below (2 * 2 ^ l.columns.bits) c.in-Some.low _ split.high (omega (arith, pow_pos l.columns.bits)) c.in-Some.ensures.low.3 split.parts))
 
 pub returns-clause-holds : goal.returns-clause-holds
-returns-clause-holds c p h shown =
+returns-clause-holds c p from h shown =
     let l = c.args.self.now in
     let t = l.columns.taken in
     let deep : l.deep ≡ true = grind (arith, c.if-not-self.false) in
@@ -68,12 +68,12 @@ returns-clause-holds c p h shown =
     let after = c.push.ensures.holds p last shown in
     let more = c.push.ensures.more in
     let split = subst (λ v. IsSplitOff c.in-Some.low c.in_ok-split_off-2.field-0 v.items c.split_off-2.new.band.items) kept.2 c.in_ok-split_off-2.ensures in
-    deep_holds p l _ c.in-Some.low c.in_ok-split_off-2.field-0 c.push.new.self.high (t / 2 - 1) deep s h (subst (λ m. HasOneMore l.columns m) (sym kept.0) more) kept.1 given split
+    deep_holds from p l _ c.in-Some.low c.in_ok-split_off-2.field-0 c.push.new.self.high (t / 2 - 1) deep s h (subst (λ m. HasOneMore l.columns m) (sym kept.0) more) kept.1 given split
     (subst (λ m. HoldsLast p m) (sym kept.0) after) (c.push.ensures.state.high_width ∙ more.width) known (last_known p l.columns c.push.new.self more after facts.0)
     (record { low = high.low; split = high.split; added = high.added })
 
 pub returns-clause-shows : goal.returns-clause-shows
-returns-clause-shows c p h shown =
+returns-clause-shows c p from h shown =
     let l = c.args.self.now in
     let t = l.columns.taken in
     let deep : l.deep ≡ true = grind (arith, c.if-not-self.false) in

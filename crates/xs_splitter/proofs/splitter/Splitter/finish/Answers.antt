@@ -102,7 +102,7 @@ pub returns-clause-same : goal.returns-clause-same
 returns-clause-same c = c.levels.invariant.split
 
 pub returns-clause-holds : goal.returns-clause-holds
-returns-clause-holds c p held =
+returns-clause-holds c p from held =
     let f = c.levels.invariant in
     let last : c.levels.level ≡ c.args.self.now.down = omega (arith, c.levels-test.false, c.levels.auto.level-end, f.to) in
-    finish_bands c.levels.rows c.args.self.now c.levels.self p (subst (λ k. IsFinishing k c.levels.rows c.args.self.now c.levels.self) last f) held
+    finish_bands c.levels.rows c.args.self.now c.levels.self p from (subst (λ k. IsFinishing k c.levels.rows c.args.self.now c.levels.self) last f) held

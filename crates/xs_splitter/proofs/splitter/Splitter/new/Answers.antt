@@ -16,6 +16,6 @@ returns-clause-chain c =
     subst (λ low. AreChained (split_by c.args.shape) 0 0 c.levels.levels.items low) (sym c.new-2.ensures.items) (built_chain c.args.shape c.levels.level c.levels.next c.levels.levels.items c.levels.invariant all c.requires.split c.requires.few)
 
 pub returns-clause-holds : goal.returns-clause-holds
-returns-clause-holds c p =
+returns-clause-holds c p from =
     let all : c.levels.level ≡ c.args.shape.across = omega (arith, c.levels-test.false, c.levels.auto.level-end) in
-    subst (λ low. HoldPlane (split_by c.args.shape) 0 p c.levels.levels.items low) (sym c.new-2.ensures.items) (built_plane c.args.shape c.levels.level c.levels.next c.levels.levels.items p c.levels.invariant all)
+    subst (λ low. HoldPlane (split_by c.args.shape) 0 from p c.levels.levels.items low) (sym c.new-2.ensures.items) (built_plane c.args.shape from c.levels.level c.levels.next c.levels.levels.items p c.levels.invariant all)
