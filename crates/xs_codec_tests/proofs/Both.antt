@@ -1,13 +1,13 @@
 -- The coefficients of two slices.
-use Rattle.std.proofs.Common.{◌≡◌, ℕ, ◌+◌, ◌-◌, ◌*◌, ◌<◌, ◌≤◌, List, [], ℤ, pos, length, map, get_or, sym, ap, subst, ◌∙◌, arith, refl}
-use Rattle.std.specs.Prelude.{nat_lt, if◌then◌else◌, Bool, true, false}
+use Rattle.std.proofs.Common.{◌≡◌, ℕ, ◌<◌, ◌≤◌, List, pos, length, map, sym, ap, ◌∙◌, arith}
+use Rattle.std.specs.Prelude.{nat_lt, if◌then◌else◌}
 use Rattle.std.proofs.lemmas.List.{ext_get_or}
 use Rattle.std.proofs.lemmas.List.FromFn.{get_or-map-range_with_len, length-map-range_with_len}
 use Rattle.std.proofs.lemmas.Bool.{lt-ltb, le-ltb}
 use Rattle.xs_params.specs.declared.header.Header.{Header}
 use Rattle.xs_params.specs.Geometry.{band_width_of, bands_of}
 use Rattle.xs_lists.specs.Spelling.{upto}
-use Rattle.xs_geometry.specs.SliceLines.{AreLinesOf, BandLines, HasLine, ShowRows, first_line_of, end_line_of, lines_at, row_at, rows_held}
+use Rattle.xs_geometry.specs.SliceLines.{AreLinesOf, BandLines, HasLine, ShowRows, first_line_of, row_at, rows_held}
 use Rattle.xs_rate.specs.Coefficients.{Rows}
 
 -- above the first line of the second slice those of the first, and those of the second from it on

@@ -2,10 +2,7 @@
 ghost use Rattle.std.specs.Prelude.{◌≡◌, ◌<◌, ◌^◌, length, IfOk, IfErr};
 ghost use Rattle.xs_params.specs.Accepted.{IsAccepted};
 ghost use Rattle.xs_params.specs.Geometry.{slice_count};
-ghost use Rattle.xs_params.specs.Rows.{Rows};
-ghost use Rattle.xs_geometry.specs.SliceLines.{AreLinesOf, ShowRows};
 ghost use Rattle.xs_slice_read.specs.Unit.{IsUnitRead};
-ghost use Rattle.xs_stripe.specs.Edges.{AreSmallRows, IsUpEdge, IsDownEdge, ShowsUp, ShowsDown};
 ghost use Rattle.xs_handover.specs.Handing.{AreBlocksOf, IsRefusal, source_of};
 
 use crate::block::RowBlock;
@@ -20,7 +17,7 @@ use xs_geometry::{Geometry, SliceRows};
 use xs_io::{Memory, Octets};
 use xs_params::Header;
 use xs_slice_read::read_unit;
-use xs_stripe::{Edge, edges_of};
+use xs_stripe::slice_edges;
 
 // Reads the unit of a slice.
 fn read_rows(
@@ -40,25 +37,6 @@ fn read_rows(
         Err(SliceFault::Memory) => Err(HandFault::Memory),
         Err(fault) => Err(HandFault::Slice(fault)),
     }
-}
-
-// The edges of the rows of a slice, first the one that goes up.
-fn edges(
-    alloc: Global,
-    header: &Header,
-    slice: u32,
-    rows: &SliceRows,
-) -> Result<(Edge, Edge), Memory>
-    requires accepted { IsAccepted header.now }
-    requires there { slice < slice_count header.now }
-    requires lines { AreLinesOf header.now slice rows.now }
-    requires small { AreSmallRows rows.now }
-    ensures up { IfOk result (λ e. IsUpEdge header.now slice e.0) }
-    ensures down { IfOk result (λ e. IsDownEdge header.now slice e.1) }
-    ensures shows_up { IfOk result (λ e. (shown : Rows) → ShowRows header.now shown rows.now → ShowsUp header.now slice e.0 shown) }
-    ensures shows_down { IfOk result (λ e. (shown : Rows) → ShowRows header.now shown rows.now → ShowsDown header.now slice e.1 shown) }
-{
-    edges_of(alloc, &Geometry::of(header), rows)
 }
 
 // The slice, with an owner.
@@ -84,7 +62,7 @@ fn blocks_of(alloc: Global, source: SliceSource, rows: SliceRows) -> Result<Hand
 {
     let slice = source.slice;
     let slices = Geometry::of(&source.header).slices();
-    let (up, down) = edges(alloc, &source.header, slice, &rows)?;
+    let (up, down) = slice_edges(alloc, &source.header, slice, &rows)?;
     let source = shared(alloc, source)?;
     let up = if slice > 0 {
         Some(RowBlock::new(alloc, again(&source)?, Piece::Up(up))?)

@@ -7,3 +7,5 @@ pub mod Edged
 pub mod Beside
 pub mod Reach
 pub mod Filled
+pub mod Written
+pub mod HeaderEdges

@@ -7,3 +7,4 @@ pub mod Block
 pub mod Edges
 pub mod Near
 pub mod Stripe
+pub mod Written

@@ -1,6 +1,6 @@
 //! The rows that a slice hands to its neighbours.
 ghost use Rattle.std.specs.Prelude.{◌≡◌, ◌<◌, ℕ, [], length, map, IfOk, MatchOption};
-ghost use Rattle.xs_params.specs.Accepted.{IsGeometry};
+ghost use Rattle.xs_params.specs.Accepted.{IsAccepted, IsGeometry};
 ghost use Rattle.xs_params.specs.Geometry.{bands_of, slice_count};
 ghost use Rattle.xs_geometry.specs.SliceLines.{AreLinesOf, ShowRows};
 ghost use Rattle.xs_rate.specs.Coefficients.{Rows};
@@ -12,6 +12,7 @@ use std::alloc::Global;
 use std::marker::Model;
 use xs_geometry::{Geometry, SliceRows};
 use xs_io::Memory;
+use xs_params::Header;
 
 /// Rows of a slice, at most one of each band.
 #[derive(Drop)]
@@ -71,6 +72,25 @@ pub fn edges_of(
     let up = up_rows(alloc, geometry, body)?;
     let down = down_rows(alloc, geometry, body)?;
     Ok((Edge { slice, rows: up }, Edge { slice, rows: down }))
+}
+
+/// The same of the slice with this number, by the header of its picture.
+pub fn slice_edges(
+    alloc: Global,
+    header: &Header,
+    slice: u32,
+    body: &SliceRows,
+) -> Result<(Edge, Edge), Memory>
+    requires accepted { IsAccepted header.now }
+    requires slice { slice < slice_count header.now }
+    requires lines { AreLinesOf header.now slice body.now }
+    requires small { AreSmallRows body.now }
+    ensures up { IfOk result (λ edges. IsUpEdge header.now slice edges.0) }
+    ensures down { IfOk result (λ edges. IsDownEdge header.now slice edges.1) }
+    ensures shows_up { IfOk result (λ edges. (rows : Rows) → ShowRows header.now rows body.now → ShowsUp header.now slice edges.0 rows) }
+    ensures shows_down { IfOk result (λ edges. (rows : Rows) → ShowRows header.now rows body.now → ShowsDown header.now slice edges.1 rows) }
+{
+    edges_of(alloc, &Geometry::of(header), body)
 }
 
 // The number of the slice that has these rows: the lowest band has a line in each precinct.

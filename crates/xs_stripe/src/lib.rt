@@ -19,8 +19,9 @@ mod row_list;
 mod sample_list;
 mod source;
 mod stripe;
+mod write;
 
-pub use edges::{Edge, edges_of};
+pub use edges::{Edge, edges_of, slice_edges};
 pub use lines::Lines;
 pub use source::CoefficientRows;
 pub use stripe::{Stripe, synthesise_stripe};

@@ -18,6 +18,7 @@ use crate::sample_list::SampleList;
 use std::alloc::Global;
 use xs_geometry::SliceRows;
 use xs_io::Memory;
+use xs_layout::Format;
 use xs_params::{Header, component_width};
 
 /// The samples of all components in the picture lines of a slice, line after line, in one block of memory.
@@ -45,12 +46,14 @@ impl Stripe {
         let first = line_of(header, slice * precincts);
         let end = line_of(header, (slice + 1) * precincts);
         let components = u32::from(component_count(header));
-        let rows = (end - first) * components;
+        let lines = end - first;
+        let rows = lines * components;
+        let samples = lines as usize * samples_in_line(header);
         Ok(Stripe {
             first,
             end,
             components,
-            rows: SampleList::new(alloc, rows as usize, 0)?,
+            rows: SampleList::new(alloc, rows as usize, samples)?,
         })
     }
 
@@ -97,6 +100,19 @@ pub fn synthesise_stripe(
     lines.begin(&source, slice);
     fill(&mut stripe, &mut lines, &source, scratch.as_mut_slice())?;
     Ok(stripe)
+}
+
+// How many samples a picture line has in all components.
+fn samples_in_line(header: &Header) -> usize
+    requires { IsAccepted header.now }
+    ensures { result ≤ 3 * header.now.shape.width }
+{
+    let width = header.shape.width as usize;
+    match header.shape.format {
+        Format::Mono => width,
+        Format::C422 => 2 * width,
+        Format::C444 => 3 * width,
+    }
 }
 
 fn zeros(alloc: Global, width: usize) -> Result<Vec<u16>, Memory>

@@ -10,8 +10,8 @@ use Rattle.xs_handover.proofs.Decoding.{block_is, decoded_body, decoded_down, de
 use Rattle.xs_handover.proofs.reading.blocks_of.Goals.{then-slice-gt0+in_ok-again+in_ok-new, else-slice-gt0, then-slice-slices+in_ok-again-2+in_ok-new-2, else-slice-slices}
 use Rattle.xs_handover.proofs.reading.blocks_of.Goals as goal
 
-pub edges-requires-clause-small : goal.edges-requires-clause-small
-edges-requires-clause-small c = unit_small c.args.source.header c.args.source.slice c.args.rows c.args.source.bytes c.requires.accepted c.requires.read
+pub slice_edges-requires-clause-small : goal.slice_edges-requires-clause-small
+slice_edges-requires-clause-small c = unit_small c.args.source.header c.args.source.slice c.args.rows c.args.source.bytes c.requires.accepted c.requires.read
 
 pub new-requires : goal.new-requires
 new-requires c =
