@@ -63,30 +63,30 @@ sample_small depth bw sample is_depth bits =
 
 -- ---- a component
 
-pub more_given : (h : Header) (picture : Picture) (component line : ℕ) (row : List ℤ) (c n : Splitter) → IsLine h picture component line row → IsGiven h picture component line c → IsChain 0 n.taken n → n.taken ≡ c.taken + 1 → split_of n ≡ split_of c
-    → ((p : ℕ → ℕ → ℤ) → HoldsPlane 0 p c → Shows row (p c.taken) → HoldsPlane 0 p n) → IsGiven h picture component (line + 1) n
-more_given h picture component line row c n is g chain taken split holds =
+pub more_given : (h : Header) (picture : Picture) (component from line : ℕ) (row : List ℤ) (c n : Splitter) → IsLine h picture component line row → IsGiven h picture component from line c → IsChain 0 n.taken n → n.taken ≡ c.taken + 1 → split_of n ≡ split_of c
+    → ((p : ℕ → ℕ → ℤ) (start : ℕ) → HoldsPlane 0 start p c → Shows row (p c.taken) → HoldsPlane 0 start p n) → IsGiven h picture component from (line + 1) n
+more_given h picture component from line row c n is g chain taken split holds =
     let p : ℕ → ℕ → ℤ = numbers_of h picture component in
     record {
       chain = chain;
       taken = taken ∙ ap (λ k. k + 1) g.taken;
       split = split ∙ g.split;
-      holds = holds p g.holds (subst (λ k. Shows row (p k)) (sym g.taken) is.shown);
+      holds = holds p from g.holds (subst (λ k. Shows row (p k)) (sym g.taken) is.shown);
     }
 
 -- a row is as wide as its splitter wants
-pub given_width : (h : Header) (picture : Picture) (component line : ℕ) (row : List ℤ) (c : Splitter) → IsLine h picture component line row → IsGiven h picture component line c → length row ≡ c.width
-given_width h picture component line row c is g = is.width ∙ sym (ap (λ s. s.width) g.split)
+pub given_width : (h : Header) (picture : Picture) (component from line : ℕ) (row : List ℤ) (c : Splitter) → IsLine h picture component line row → IsGiven h picture component from line c → length row ≡ c.width
+given_width h picture component from line row c is g = is.width ∙ sym (ap (λ s. s.width) g.split)
 
-pub given_room : (h : Header) (picture : Picture) (component line : ℕ) (c : Splitter) → line < h.shape.height → IsGiven h picture component line c → c.taken < c.height
-given_room h picture component line c inside g = omega (arith, inside, g.taken, ap (λ s. s.height) g.split)
+pub given_room : (h : Header) (picture : Picture) (component from line : ℕ) (c : Splitter) → line < h.shape.height → IsGiven h picture component from line c → c.taken < c.height
+given_room h picture component from line c inside g = omega (arith, inside, g.taken, ap (λ s. s.height) g.split)
 
-pub given_all : (h : Header) (picture : Picture) (component line : ℕ) (c : Splitter) → line ≡ h.shape.height → IsGiven h picture component line c → c.taken ≡ c.height
-given_all h picture component line c all g = omega (arith, all, g.taken, ap (λ s. s.height) g.split)
+pub given_all : (h : Header) (picture : Picture) (component from line : ℕ) (c : Splitter) → line ≡ h.shape.height → IsGiven h picture component from line c → c.taken ≡ c.height
+given_all h picture component from line c all g = omega (arith, all, g.taken, ap (λ s. s.height) g.split)
 
-pub given_up : (h : Header) (picture : Picture) (component line : ℕ) (c n : Splitter) → IsGiven h picture component line c → HasAll n → split_of n ≡ split_of c
-    → ((p : ℕ → ℕ → ℤ) → HoldsPlane 0 p c → HoldBands (split_of n) p n.levels.items n.low.items) → IsSplitUp h picture component n
-given_up h picture component line c n g all same holds = record { all = all; split = same ∙ g.split; holds = holds (numbers_of h picture component) g.holds }
+pub given_up : (h : Header) (picture : Picture) (component from line : ℕ) (c n : Splitter) → IsGiven h picture component from line c → HasAll n → split_of n ≡ split_of c
+    → ((p : ℕ → ℕ → ℤ) (start : ℕ) → HoldsPlane 0 start p c → HoldBands (split_of n) start p n.levels.items n.low.items) → IsSplitUp h picture component from n
+given_up h picture component from line c n g all same holds = record { all = all; split = same ∙ g.split; holds = holds (numbers_of h picture component) from g.holds }
 
 -- a row of scaled samples
 pub plain_line : (h : Header) (picture : Picture) (component line : ℕ) (samples : List ℕ) (row : List ℤ) → h.colour ≡ false → picture.shape ≡ h.shape → length row ≡ component_width h component → samples ≡ samples_of_row picture component line

@@ -1,6 +1,6 @@
 -- What holds of each type of band holds of each band of a component: so a splitter has the rows of each band.
-use Rattle.std.proofs.Common.{◌≡◌, ℕ, zero, suc, ◌+◌, ◌-◌, ◌*◌, ◌/◌, ◌%◌, ◌<◌, ◌≤◌, List, [], ◌∷◌, length, map, get_or, ℤ, true, false, ap, sym, subst, ◌∙◌, arith, inl, inr, refl}
-use Rattle.std.specs.Prelude.{if◌then◌else◌, nat_lt}
+use Rattle.std.proofs.Common.{◌≡◌, ℕ, zero, suc, ◌+◌, ◌-◌, ◌/◌, ◌%◌, ◌<◌, ◌≤◌, List, [], ◌∷◌, length, map, get_or, ℤ, true, false, ap, sym, subst, ◌∙◌, arith, inl, inr, refl}
+use Rattle.std.specs.Prelude.{if◌then◌else◌}
 use Rattle.std.proofs.lemmas.Bool.{cases_lt, le-ltb}
 use Rattle.std.proofs.lemmas.List.{get_or-map, get_or_past, length-map}
 use Rattle.xs_layout.specs.Geometry.{BandType, ll, hl, components_of}
@@ -10,7 +10,7 @@ use Rattle.xs_params.specs.Accepted.{IsAccepted}
 use Rattle.xs_signal.specs.Wavelet.{Split, Bands, band_plane, bands_of_plane, low_count, high_count, low_count_at}
 use Rattle.xs_signal.specs.Stripe.{rows_at}
 use Rattle.xs_splitter.specs.Level.{ShowRows, known_rows}
-use Rattle.xs_splitter.specs.Chain.{HaveAll, HoldBands}
+use Rattle.xs_splitter.specs.Chain.{HaveAll, HoldBands, rows_beside}
 use Rattle.xs_splitter.specs.Shown.{ShowBands, KnowsRow, IsRow, hl_rows, lh_rows, hh_rows}
 use Rattle.xs_splitter.specs.declared.level.Level.{Level}
 use Rattle.xs_splitter.specs.declared.splitter.Splitter.{Splitter}
@@ -102,57 +102,57 @@ hh_of_type c t down across =
 abbrev IsHeld : ℕ → ℕ → List (List ℤ) → (ℕ → ℕ → ℤ) → Type 0
 IsHeld columns lines rows p = HasSize columns lines rows × SameWithin columns lines (plane_of rows) p
 
-band_held : (width height columns lines : ℕ) (rows : List (List ℤ)) (p : ℕ → ℕ → ℤ) → columns ≡ width → lines ≡ height → length rows ≡ height → ShowRows width rows p → IsHeld columns lines rows p
-band_held width height columns lines rows p wide high many shown = (sized, same)
+band_held : (from width height columns lines : ℕ) (rows : List (List ℤ)) (p : ℕ → ℕ → ℤ) → from ≡ 0 → columns ≡ width → lines ≡ height → length rows ≡ height → ShowRows from width rows p → IsHeld columns lines rows p
+band_held from width height columns lines rows p all wide high many shown = (sized, same)
   where
     sized : HasSize columns lines rows
-    sized = record { wide = λ row inside. shown.wide row inside ∙ sym wide; high = many ∙ sym high }
+    sized = record { wide = λ row inside. shown.wide row (omega (arith, all)) inside ∙ sym wide; high = many ∙ sym high }
 
     same : SameWithin columns lines (plane_of rows) p
     same row column above within =
         let there : row < length rows = omega (arith, above, high, many) in
-        let width_here = shown.wide row there in
-        shown.shown row there column (omega (arith, within, wide, width_here))
+        let width_here = shown.wide row (omega (arith, all)) there in
+        shown.shown row (omega (arith, all)) there column (omega (arith, within, wide, width_here))
 
-side_held : (c : Splitter) (level width height columns lines : ℕ) (rows : Level → List (List ℤ)) (band : ℕ → ℕ → ℕ → ℤ) → level < length c.levels.items → columns ≡ width → lines ≡ height → ((other : Level) → length (rows (get_or c.levels.items level other)) ≡ height)
-    → ((other : Level) → ShowRows width (rows (get_or c.levels.items level other)) (band (level + 1))) → IsHeld columns lines (rows_of_level rows c (suc level - 1)) (band (suc level))
-side_held c level width height columns lines rows band inside wide high many shown =
+side_held : (c : Splitter) (from level width height columns lines : ℕ) (rows : Level → List (List ℤ)) (band : ℕ → ℕ → ℕ → ℤ) → from ≡ 0 → level < length c.levels.items → columns ≡ width → lines ≡ height → ((other : Level) → length (rows (get_or c.levels.items level other)) ≡ height)
+    → ((other : Level) → ShowRows from width (rows (get_or c.levels.items level other)) (band (level + 1))) → IsHeld columns lines (rows_of_level rows c (suc level - 1)) (band (suc level))
+side_held c from level width height columns lines rows band all inside wide high many shown =
     let back : level ≡ suc level - 1 = omega arith in
     let one : level + 1 ≡ suc level = omega arith in
     subst (λ k. IsHeld columns lines (rows_of_level rows c k) (band (suc level))) back
     (subst (λ k. IsHeld columns lines (rows_of_level rows c level) (band k)) one
-    (at_level c level rows (λ r. IsHeld columns lines r (band (level + 1))) inside (λ other. band_held width height columns lines (rows (get_or c.levels.items level other)) (band (level + 1)) wide high (many other) (shown other))))
+    (at_level c level rows (λ r. IsHeld columns lines r (band (level + 1))) inside (λ other. band_held from width height columns lines (rows (get_or c.levels.items level other)) (band (level + 1)) all wide high (many other) (shown other))))
 
 abbrev IsTypeHeld : Split → Splitter → Bands → BandType → Type 0
 IsTypeHeld s c b type = IsHeld (columns_in s type) (rows_in s type) (rows_by_type c type) (band_plane b type)
 
-deep_held : (s : Split) (c : Splitter) (p : ℕ → ℕ → ℤ) → s.down ≤ s.across → HaveAll s c.levels.items c.low.items → ShowBands s p c.levels.items c.low.items → (level side : ℕ) → level < s.down → side < 3
+deep_held : (s : Split) (c : Splitter) (p : ℕ → ℕ → ℤ) → s.down ≤ s.across → HaveAll s c.levels.items c.low.items → ShowBands s 0 p c.levels.items c.low.items → (level side : ℕ) → level < s.down → side < 3
     → IsTypeHeld s c (bands_of_plane s p) (deep_side (suc level) side)
 deep_held s c p deep all shown level zero less few =
-    side_held c level (high_count (low_count_at s.width level)) (low_count_at s.height (suc level)) _ _ hl_rows (bands_of_plane s p).hl (omega (arith, less, deep, all.many)) (high_columns s.width level) (low_columns s.height (suc level))
+    side_held c (rows_beside s level 0) level (high_count (low_count_at s.width level)) (low_count_at s.height (suc level)) _ _ hl_rows (bands_of_plane s p).hl (omega arith) (omega (arith, less, deep, all.many)) (high_columns s.width level) (low_columns s.height (suc level))
     (λ other. let d = all.done level other (omega arith) less in d.all.hl ∙ ap low_count (d.height ∙ rows_deep s level (omega (arith, less)))) (λ other. shown.hl level other (omega (arith, less, deep)))
 deep_held s c p deep all shown level (suc zero) less few =
-    side_held c level (low_count (low_count_at s.width level)) (high_count (low_count_at s.height level)) _ _ lh_rows (bands_of_plane s p).lh (omega (arith, less, deep, all.many)) (low_columns s.width (suc level)) (high_columns s.height level)
+    side_held c (rows_beside s level 0) level (low_count (low_count_at s.width level)) (high_count (low_count_at s.height level)) _ _ lh_rows (bands_of_plane s p).lh (omega arith) (omega (arith, less, deep, all.many)) (low_columns s.width (suc level)) (high_columns s.height level)
     (λ other. let d = all.done level other (omega arith) less in d.all.lh ∙ ap high_count (d.height ∙ rows_deep s level (omega (arith, less)))) (λ other. shown.lh level other less)
 deep_held s c p deep all shown level (suc (suc zero)) less few =
-    side_held c level (high_count (low_count_at s.width level)) (high_count (low_count_at s.height level)) _ _ hh_rows (bands_of_plane s p).hh (omega (arith, less, deep, all.many)) (high_columns s.width level) (high_columns s.height level)
+    side_held c (rows_beside s level 0) level (high_count (low_count_at s.width level)) (high_count (low_count_at s.height level)) _ _ hh_rows (bands_of_plane s p).hh (omega arith) (omega (arith, less, deep, all.many)) (high_columns s.width level) (high_columns s.height level)
     (λ other. let d = all.done level other (omega arith) less in d.all.hh ∙ ap high_count (d.height ∙ rows_deep s level (omega (arith, less)))) (λ other. shown.hh level other less)
 deep_held s c p deep all shown level (suc (suc (suc side))) less few = absurd (omega (arith, few))
 
-wide_held : (s : Split) (c : Splitter) (p : ℕ → ℕ → ℤ) → HaveAll s c.levels.items c.low.items → ShowBands s p c.levels.items c.low.items → (level : ℕ) → s.down ≤ level → level < s.across → IsTypeHeld s c (bands_of_plane s p) (hl (suc level) s.down)
+wide_held : (s : Split) (c : Splitter) (p : ℕ → ℕ → ℤ) → HaveAll s c.levels.items c.low.items → ShowBands s 0 p c.levels.items c.low.items → (level : ℕ) → s.down ≤ level → level < s.across → IsTypeHeld s c (bands_of_plane s p) (hl (suc level) s.down)
 wide_held s c p all shown level from to =
-    side_held c level (high_count (low_count_at s.width level)) (rows_at s level) _ _ hl_rows (bands_of_plane s p).hl (omega (arith, to, all.many)) (high_columns s.width level) (low_columns s.height s.down ∙ sym (rows_wide s level from))
+    side_held c (rows_beside s level 0) level (high_count (low_count_at s.width level)) (rows_at s level) _ _ hl_rows (bands_of_plane s p).hl (omega arith) (omega (arith, to, all.many)) (high_columns s.width level) (low_columns s.height s.down ∙ sym (rows_wide s level from))
     (λ other. given_count s level (rows_at s level) (get_or c.levels.items level other) (all.rest level other from to) ∙ ap (λ d. if d then known_rows (rows_at s level) else rows_at s level) (le-ltb level s.down from))
     (λ other. shown.hl level other to)
 
 -- the rows of a splitter are those of the bands
-rows_held : (s : Split) (c : Splitter) (p : ℕ → ℕ → ℤ) → s.down ≤ s.across → HaveAll s c.levels.items c.low.items → ShowBands s p c.levels.items c.low.items → (number : ℕ) → number < band_count s → IsTypeHeld s c (bands_of_plane s p) (type_at s number)
+rows_held : (s : Split) (c : Splitter) (p : ℕ → ℕ → ℤ) → s.down ≤ s.across → HaveAll s c.levels.items c.low.items → ShowBands s 0 p c.levels.items c.low.items → (number : ℕ) → number < band_count s → IsTypeHeld s c (bands_of_plane s p) (type_at s number)
 rows_held s c p deep all shown =
     each_type s (IsTypeHeld s c (bands_of_plane s p)) deep
-    (band_held (low_count_at s.width s.across) (rows_at s s.across) _ _ c.low.items (bands_of_plane s p).ll (low_columns s.width s.across) (low_columns s.height s.down ∙ sym (rows_wide s s.across deep)) all.given shown.ll)
+    (band_held 0 (low_count_at s.width s.across) (rows_at s s.across) _ _ c.low.items (bands_of_plane s p).ll refl (low_columns s.width s.across) (low_columns s.height s.down ∙ sym (rows_wide s s.across deep)) all.given shown.ll)
     (wide_held s c p all shown) (deep_held s c p deep all shown)
 
-pub component_split_up : (h : Header) (picture : Picture) (component : ℕ) (c : Splitter) → IsAccepted h → component < components_of h.shape.format → IsSplitUp h picture component c → AreComponentBandsOf h picture component (rows_by_type c)
+pub component_split_up : (h : Header) (picture : Picture) (component : ℕ) (c : Splitter) → IsAccepted h → component < components_of h.shape.format → IsSplitUp h picture component 0 c → AreComponentBandsOf h picture component (rows_by_type c)
 component_split_up h picture component c accepted there up = record { are = λ number inside. (held number inside).0; shown = λ number inside. (held number inside).1 }
   where
     s : Split
@@ -167,8 +167,8 @@ component_split_up h picture component c accepted there up = record { are = λ n
     all : HaveAll s c.levels.items c.low.items
     all = subst (λ t. HaveAll t c.levels.items c.low.items) up.split up.all
 
-    holds : HoldBands s p c.levels.items c.low.items
-    holds = subst (λ t. HoldBands t p c.levels.items c.low.items) up.split up.holds
+    holds : HoldBands s 0 p c.levels.items c.low.items
+    holds = subst (λ t. HoldBands t 0 p c.levels.items c.low.items) up.split up.holds
 
     held : (number : ℕ) → number < band_count s → IsTypeHeld s c (bands_of_plane s p) (type_at s number)
-    held = rows_held s c p splittable.deep all (bands_shown.last s p c.levels.items c.low.items splittable.deep all holds)
+    held = rows_held s c p splittable.deep all (bands_shown.last s 0 p c.levels.items c.low.items splittable.deep all holds)

@@ -71,7 +71,7 @@ height_most h band accepted inside =
 
 -- ---- slices
 
-ceil_covers : (n d : ℕ) → 1 ≤ d → n ≤ ceil_div n d * d
+pub ceil_covers : (n d : ℕ) → 1 ≤ d → n ≤ ceil_div n d * d
 ceil_covers n d some = omega (arith, some)
 
 pub quotient_below : (n d q : ℕ) → 0 < d → n < q * d → n / d < q

@@ -14,3 +14,4 @@ pub mod HeadersNamed
 pub mod Named
 pub mod ReadAgain
 pub mod OnePicture
+pub mod Grown

@@ -82,18 +82,18 @@ pub record AreBandsOf (h : Header) (picture : Picture) (bands : List Splitter) :
 
 -- Splitters
 
--- a splitter was given so many rows of a component
-pub record IsGiven (h : Header) (picture : Picture) (component line : ℕ) (c : Splitter) : Type 0 where
+-- a splitter was given so many rows of a component, and keeps those beside the lowest band's rows from one on
+pub record IsGiven (h : Header) (picture : Picture) (component from line : ℕ) (c : Splitter) : Type 0 where
   pub chain : IsChain 0 c.taken c
   pub taken : c.taken ≡ line
   pub split : split_of c ≡ component_split h component
-  pub holds : HoldsPlane 0 (numbers_of h picture component) c
+  pub holds : HoldsPlane 0 from (numbers_of h picture component) c
 
 -- and after the last row
-pub record IsSplitUp (h : Header) (picture : Picture) (component : ℕ) (c : Splitter) : Type 0 where
+pub record IsSplitUp (h : Header) (picture : Picture) (component from : ℕ) (c : Splitter) : Type 0 where
   pub all : HasAll c
   pub split : split_of c ≡ component_split h component
-  pub holds : HoldBands (split_of c) (numbers_of h picture component) c.levels.items c.low.items
+  pub holds : HoldBands (split_of c) from (numbers_of h picture component) c.levels.items c.low.items
 
 -- Rows
 

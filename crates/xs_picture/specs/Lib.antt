@@ -6,3 +6,4 @@ pub mod StreamRead
 pub mod ReadAgain
 pub mod OnePicture
 pub mod Local
+pub mod Growing

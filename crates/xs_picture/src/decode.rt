@@ -4,6 +4,7 @@ mod coefs;
 mod decoder;
 mod reader;
 mod rows;
+mod stripes;
 
 pub use coefs::StreamCoefs;
 pub use decoder::{decode_coefs, decode_picture};

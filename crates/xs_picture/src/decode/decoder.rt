@@ -1,31 +1,72 @@
 //! The picture of a codestream.
 ghost use Rattle.std.specs.Prelude.{◌≡◌, ◌≢◌, ◌+◌, ◌*◌, ◌<◌, ◌≤◌, ◌⊎◌, ◌^◌, ℕ, Some, length, IfOk, IfErr};
+ghost use Rattle.xs_params.specs.Geometry.{slice_count};
 ghost use Rattle.xs_params.specs.Picture.{IsPicture, IsPlace, IsRow, sample_at, width_of};
+ghost use Rattle.xs_markers.specs.Read.{IsHeaderRead};
+ghost use Rattle.xs_reading.specs.Stream.{slices_fault};
 ghost use Rattle.xs_decoding.specs.Decoded.{IsPictureOf, decoded_sample};
 ghost use Rattle.xs_rate.specs.Coefficients.{Rows};
 ghost use Rattle.xs_stripe.specs.Lines.{AreLines, HoldRows};
 ghost use Rattle.xs_picture.specs.Coefs.{AreCoefs, rows_of_slices};
 ghost use Rattle.xs_picture.specs.Faults.{stream_fault};
+ghost use Rattle.xs_picture.specs.Growing.{IsGrowing, IsGrownOf, next_slice};
 ghost use Rattle.xs_picture.specs.StreamRead.{IsPictureRead};
 
 use crate::decode::coefs::StreamCoefs;
-use crate::decode::reader::read_stream;
+use crate::decode::reader::{check_length, read_end, read_start, stream_fault_of_slice};
 use crate::decode::rows::StreamRows;
+use crate::decode::stripes::GrowingPicture;
 use std::alloc::Global;
 use xs_faults::StreamFault;
+use xs_geometry::Geometry;
 use xs_io::Memory;
-use xs_params::{Planes, component_width};
+use xs_params::{Header, Planes, component_width};
+use xs_slice_read::read_front;
 use xs_stripe::Lines;
 
-/// The picture of the codestream at the front of the bytes, and how many bytes it has; or its first fault.
+/// The picture of the codestream at the front of the bytes, and how many bytes it has; or its first fault. The lines of a slice
+/// are made when the slice after it is read, and of the coefficients those of two slices are kept.
 pub fn decode_picture(alloc: Global, bytes: &[u8]) -> Result<(Planes, usize), StreamFault>
     requires few { length bytes.now < 2 ^ 32 }
     ensures read { IfOk result (λ read. IsPictureRead read.0 bytes.now read.1) }
     ensures refused { IfErr result (λ fault. fault ≢ StreamFault.Memory → stream_fault bytes.now ≡ Some fault) }
 {
-    let (coefs, size) = read_stream(alloc, bytes)?;
-    let picture = decode_coefs(alloc, &coefs)?;
-    Ok((picture, size))
+    let (header, start) = read_start(alloc, bytes)?;
+    let (growing, place) = grow_picture(alloc, header, bytes, start)?;
+    let end = read_end(bytes, place)?;
+    check_length(growing.header(), end)?;
+    let picture = growing.finish(alloc)?;
+    Ok((picture, end))
+}
+
+// Reads the slices, which begin where the header ends, into a picture. The answer is the place where the last one ends.
+fn grow_picture(
+    alloc: Global,
+    header: Header,
+    bytes: &[u8],
+    start: usize,
+) -> Result<(GrowingPicture, usize), StreamFault>
+    requires few { length bytes.now < 2 ^ 32 }
+    requires headed { IsHeaderRead header bytes.now start }
+    ensures header { IfOk result (λ read. read.0.header ≡ header) }
+    ensures within { IfOk result (λ read. read.1 ≤ length bytes.now) }
+    ensures state { IfOk result (λ read. IsGrowing read.0) }
+    ensures all { IfOk result (λ read. next_slice read.0.waiting ≡ slice_count header) }
+    ensures read { IfOk result (λ read. IsGrownOf header bytes.now start (slice_count header) read.0 read.1) }
+    ensures refused { IfErr result (λ fault. fault ≢ StreamFault.Memory → slices_fault header bytes.now start ≡ Some fault) }
+{
+    let count = Geometry::of(&header).slices();
+    let mut growing = GrowingPicture::new(alloc, header)?;
+    let mut place = start;
+    'slices: for slice in 0..count {
+        let (rows, size) = match read_front(alloc, growing.header(), slice, &bytes[place..]) {
+            Ok(read) => read,
+            Err(fault) => return Err(stream_fault_of_slice(bytes, slice, fault)),
+        };
+        growing.push(alloc, slice, rows)?;
+        place += size;
+    }
+    Ok((growing, place))
 }
 
 /// The picture of coefficients, whatever header they have. It is made line by line.

@@ -1,5 +1,5 @@
 //! The coefficients of codestreams.
-ghost use Rattle.std.specs.Prelude.{◌≡◌, ◌≢◌, ◌+◌, ◌-◌, ◌≤◌, ◌<◌, ◌^◌, ◌++◌, true, false, None, Some, length, take, drop, IfOk, IfErr};
+ghost use Rattle.std.specs.Prelude.{◌≡◌, ◌≢◌, ◌+◌, ◌-◌, ◌≤◌, ◌<◌, ◌^◌, ◌++◌, ◌⊎◌, true, false, None, Some, length, take, drop, IfOk, IfErr, MatchResult};
 ghost use Rattle.std.specs.Result.{result_err};
 ghost use Rattle.xs_params.specs.Accepted.{IsAccepted};
 ghost use Rattle.xs_params.specs.Geometry.{slice_count};
@@ -49,7 +49,7 @@ fn stream_fault_of_header(bytes: &[u8], fault: HeadFault) -> StreamFault
 }
 
 // The fault of a codestream of which a slice is refused.
-fn stream_fault_of_slice(bytes: &[u8], slice: u32, fault: SliceFault) -> StreamFault
+pub(crate) fn stream_fault_of_slice(bytes: &[u8], slice: u32, fault: SliceFault) -> StreamFault
     requires few { length bytes.now < 2 ^ 32 }
     ensures { result ≢ StreamFault.Memory → (fault ≢ SliceFault.Memory) × (result ≡ fault_of_slice (length bytes.now) slice fault) }
 {
@@ -73,7 +73,7 @@ fn stream_fault_of_slice(bytes: &[u8], slice: u32, fault: SliceFault) -> StreamF
 }
 
 // Reads the header.
-fn read_start(alloc: Global, bytes: &[u8]) -> Result<(Header, usize), StreamFault>
+pub(crate) fn read_start(alloc: Global, bytes: &[u8]) -> Result<(Header, usize), StreamFault>
     requires few { length bytes.now < 2 ^ 32 }
     ensures read { IfOk result (λ read. IsHeaderRead read.0 bytes.now read.1) }
     ensures refused { IfErr result (λ fault. fault ≢ StreamFault.Memory → stream_fault bytes.now ≡ Some fault) }
@@ -122,7 +122,7 @@ fn has_end(bytes: &[u8], place: usize) -> bool
 }
 
 // Codestream layout: EOC. The answer is the place after it.
-fn read_end(bytes: &[u8], place: usize) -> Result<usize, StreamFault>
+pub(crate) fn read_end(bytes: &[u8], place: usize) -> Result<usize, StreamFault>
     requires few { length bytes.now < 2 ^ 32 }
     requires within { place ≤ length bytes.now }
     ensures first { result_err result ≡ eoc_fault bytes.now place }
@@ -141,6 +141,21 @@ fn read_end(bytes: &[u8], place: usize) -> Result<usize, StreamFault>
     Ok(place + EOC.len())
 }
 
+// Whether the header states this length of the codestream, or none.
+pub(crate) fn check_length(header: &Header, length: usize) -> Result<(), StreamFault>
+    requires few { length < 2 ^ 32 }
+    ensures { MatchResult result (λ _. (header.now.lcod ≡ 0) ⊎ (header.now.lcod ≡ length)) (λ fault. (header.now.lcod ≢ 0) × (header.now.lcod ≢ length) × (fault ≡ StreamFault.Lcod header.now.lcod length)) }
+{
+    let stated = header.lcod;
+    if stated != 0 && stated as usize != length {
+        return Err(StreamFault::Lcod {
+            stated,
+            length: length as u32,
+        });
+    }
+    Ok(())
+}
+
 /// Reads the codestream at the front of the bytes. The answer is its coefficients, and how many bytes it has; or its first
 /// fault. A slice's rows are made when its bytes are reached. The stated length is compared last. docs/FORMAT.md, 'Codestream
 /// layout'.
@@ -152,13 +167,7 @@ pub fn read_stream(alloc: Global, bytes: &[u8]) -> Result<(StreamCoefs, usize), 
     let (header, start) = read_start(alloc, bytes)?;
     let (coefs, place) = read_slices(alloc, header, bytes, start)?;
     let end = read_end(bytes, place)?;
-    let stated = coefs.header().lcod;
-    if stated != 0 && stated as usize != end {
-        return Err(StreamFault::Lcod {
-            stated,
-            length: end as u32,
-        });
-    }
+    check_length(coefs.header(), end)?;
     Ok((coefs, end))
 }
 

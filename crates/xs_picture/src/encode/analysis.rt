@@ -98,7 +98,7 @@ pub fn component_splitter(
 ) -> Result<Splitter, Memory>
     requires accepted { IsAccepted header.now }
     requires there { component < components_of header.now.shape.format }
-    ensures { (picture : Picture) → IfOk result (IsGiven header.now picture component 0) }
+    ensures { (picture : Picture) (from : ℕ) → IfOk result (IsGiven header.now picture component from 0) }
 {
     let shape = split_shape(header, component);
     let splitter = Splitter::new(alloc, shape)?;
@@ -136,8 +136,8 @@ fn split_rows(
     requires plain { component.header.now.colour ≡ false }
     requires there { component.number < components_of component.header.now.shape.format }
     requires width { length row.old ≡ width_of_component component.header.now component.number }
-    requires first { IsGiven component.header.now component.picture.now component.number 0 splitter.old }
-    ensures { IfOk result (λ _. IsSplitUp component.entry.header.now component.entry.picture.now component.entry.number splitter.new) }
+    requires first { IsGiven component.header.now component.picture.now component.number 0 0 splitter.old }
+    ensures { IfOk result (λ _. IsSplitUp component.entry.header.now component.entry.picture.now component.entry.number 0 splitter.new) }
 {
     'lines: for line in 0..component.header.shape.height {
         scale_line(component, line, row);

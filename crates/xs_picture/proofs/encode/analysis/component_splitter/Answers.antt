@@ -1,4 +1,4 @@
-use Rattle.std.proofs.Common.{◌≡◌, sym, ap, subst, ◌∙◌, arith}
+use Rattle.std.proofs.Common.{sym, ap, subst, ◌∙◌, arith}
 use Rattle.xs_signal.specs.Stripe.{IsSplit}
 use Rattle.xs_splitter.specs.Chain.{IsChain}
 use Rattle.xs_wave.proofs.Cascade.{component_split as splits}
@@ -21,11 +21,11 @@ new-requires-clause-few c =
     (omega (arith, across, known.few), omega (arith, down, known.two))
 
 pub returns : goal.returns
-returns c picture =
+returns c picture from =
     let e = c.in_ok-splitter.ensures in
     record {
       chain = subst (λ t. IsChain 0 t c.in_ok-splitter.splitter) (sym e.shape.1) e.chain;
       taken = e.shape.1;
       split = e.shape.0 ∙ c.split_shape-shape.ensures;
-      holds = e.holds (numbers_of c.args.header.now picture c.args.component);
+      holds = e.holds (numbers_of c.args.header.now picture c.args.component) from;
     }

@@ -1,7 +1,6 @@
 use Rattle.std.proofs.Common.{◌<◌, ◌-◌, [], length, get_or, ap, sym, subst, ◌∙◌}
 use Rattle.xs_geometry.specs.Sides.{type_of}
 use Rattle.xs_splitter.specs.Shown.{hh_rows, hl_rows, lh_rows}
-use Rattle.xs_picture.specs.Analysed.{rows_by_type, rows_of_level}
 use Rattle.xs_picture.proofs.BandTypes.{hh_of_type, hl_of_type, lh_of_type, row_is}
 use Rattle.xs_picture.proofs.encode.bands.band_row.Goals as goal
 
