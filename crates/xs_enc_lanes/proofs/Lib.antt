@@ -1,4 +1,5 @@
 pub mod Lent
+pub mod Copies
 pub mod Putting
 pub mod Known
 pub mod Folded

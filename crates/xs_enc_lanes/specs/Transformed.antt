@@ -40,18 +40,22 @@ abbrev pub FitLines : Component → LineRows → Type 0
 FitLines c (Samples row) = (c.header.now.colour ≡ false) × (length row.items ≡ component_width c.header.now c.number)
 FitLines c (Colours rows) = (c.header.now.colour ≡ true) × HaveLineWidth c.header.now.shape.width rows
 
--- so many of its rows were taken, or all
+-- so many of its rows were taken, or all; those of bands that stand beside the lowest band's from one on are kept
 pub record IsUnderWay (c : Component) (t : Transform) : Type 0 where
   pub same : t.component ≡ c
   pub component : IsComponentOf c
   pub rows : FitLines c t.rows
-  pub given : t.done ≡ false → IsGiven c.header.now c.picture.now c.number t.taken t.splitter
+  pub given : t.done ≡ false → IsGiven c.header.now c.picture.now c.number t.kept t.taken t.splitter
   pub most : t.taken ≤ c.header.now.shape.height
-  pub split : t.done ≡ true → IsSplitUp c.header.now c.picture.now c.number t.splitter
+  pub split : t.done ≡ true → IsSplitUp c.header.now c.picture.now c.number t.kept t.splitter
 
 -- so many rows were taken at least, or all
 abbrev pub HasReached : ℕ → Transform → Type 0
 HasReached rows t = (t.done ≡ true) ⊎ (rows ≤ t.taken)
+
+-- the rows of a slice and of those behind it are kept
+abbrev pub KeepsFrom : ℕ → Transform → Type 0
+KeepsFrom slice t = t.kept ≤ slice * t.component.header.now.hsl
 
 -- so many rows of a component are enough for the first slices up to this one: what lies below them has no weight there
 abbrev pub rows_for : Header → ℕ → ℕ

@@ -32,7 +32,7 @@ fn put_rows(job: &Job<'_>, pass: &mut Pass<ComponentRows>, rows: ComponentRows)
     drop(job.lanes.put(pass, rows));
 }
 
-// Transforms a component, and files its rows slice by slice, each as soon as they are known.
+// Transforms a component, and files its rows slice by slice, each as soon as they are known. Those that are filed are given up.
 pub(crate) fn file_component(
     alloc: Global,
     job: &Job<'_>,
@@ -57,6 +57,7 @@ pub(crate) fn file_component(
     'slices: for slice in 0..Geometry::of(job.header).slices() {
         transform.advance(alloc, rows_for(job.header, slice))?;
         put_rows(job, pass, transform.slice(alloc, slice)?);
+        transform.forget(slice);
     }
     Ok(())
 }

@@ -12,6 +12,7 @@ mod gather;
 mod lines;
 mod put;
 mod rows;
+mod short;
 mod sweep;
 mod team;
 mod transform;

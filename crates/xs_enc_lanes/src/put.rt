@@ -10,6 +10,7 @@ ghost use Rattle.xs_enc_lanes.specs.Rows.{component_in};
 ghost use Rattle.xs_enc_lanes.specs.Placed.{AreGathered, AreRowsPut, CarriesIn, EachSmall, IsOfBand, IsOfValue, IsRowPut};
 
 use crate::rows::ComponentRows;
+use crate::short::widen_row;
 use xs_geometry::{Geometry, SliceRows};
 use xs_io::Memory;
 use xs_params::Header;
@@ -23,13 +24,13 @@ struct GotValue<'a> {
 }
 
 // Puts the row at the place of a band's line, if it has the width.
-fn put_row(rows: &mut SliceRows, place: (u32, u32), row: &[i32])
+fn put_row(rows: &mut SliceRows, place: (u32, u32), row: &[i16])
     requires there { HasLine rows.old place.0 place.1 }
     ensures { IsRowPut rows.old place.0 place.1 row.now rows.new }
 {
     let (band, line) = place;
     if row.len() == rows.row(band, line).len() {
-        rows.put_row(band, line, row);
+        widen_row(row, rows.row_mut(band, line));
     }
 }
 

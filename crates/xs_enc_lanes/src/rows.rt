@@ -6,6 +6,7 @@ ghost use Rattle.xs_rate.specs.Laws.{IsSmallRow};
 ghost use Rattle.xs_picture.specs.Analysed.{folded_row};
 ghost use Rattle.xs_enc_lanes.specs.Rows.{component_in, row_of_component};
 
+use crate::short::narrowed;
 use std::alloc::Global;
 use std::default::MadeWith;
 use std::marker::Model;
@@ -15,7 +16,7 @@ use xs_quant::fold_row;
 // A row of coefficients, each of at most 32767 in magnitude.
 #[derive(Drop)]
 pub(crate) struct CoefRow {
-    numbers: Vec<i32>,
+    numbers: Vec<i16>,
 }
 
 impl Model for CoefRow {
@@ -30,18 +31,32 @@ impl Model for CoefRow {
     ghost invariant = { λ r. IsSmallRow (entries_of r.numbers.items) };
 }
 
+// The row of a band, folded, in place of what is there.
+fn fold_into(scratch: &mut Vec<i32>, numbers: &[i32], fraction: u8) -> Result<(), Memory>
+    requires { IsFraction fraction }
+    ensures { IfOk result (λ _. scratch.new.items ≡ folded_row fraction numbers.now) }
+{
+    scratch.resize(numbers.len(), 0).map_err(|_| Memory)?;
+    fold_row(numbers, fraction, scratch.as_mut_slice());
+    Ok(())
+}
+
 impl CoefRow {
-    // The row of a band, folded.
-    pub(crate) fn folded(alloc: Global, numbers: &[i32], fraction: u8) -> Result<CoefRow, Memory>
+    // The row of a band, folded. What was in the scratch is lost.
+    pub(crate) fn folded(
+        scratch: &mut Vec<i32>,
+        numbers: &[i32],
+        fraction: u8,
+    ) -> Result<CoefRow, Memory>
         requires { IsFraction fraction }
         ensures { IfOk result (λ row. row ≡ folded_row fraction numbers.now) }
     {
-        let mut row = Vec::from_elem(alloc, 0, numbers.len()).map_err(|_| Memory)?;
-        fold_row(numbers, fraction, row.as_mut_slice());
-        Ok(CoefRow { numbers: row })
+        fold_into(scratch, numbers, fraction)?;
+        let numbers = narrowed(*scratch.allocator(), scratch.as_slice())?;
+        Ok(CoefRow { numbers })
     }
 
-    pub(crate) fn as_slice(&self) -> &[i32]
+    pub(crate) fn as_slice(&self) -> &[i16]
         ensures numbers { result.now ≡ self.now }
         ensures small { IsSmallRow (entries_of result.now) }
     {
@@ -79,7 +94,7 @@ impl SliceBandRows {
     }
 
     // The row of a line, counted from the slice's first. It is empty where there is none.
-    fn row(&self, line: usize) -> &[i32]
+    fn row(&self, line: usize) -> &[i16]
         ensures row { result.now ≡ slice_index_or self.now line [] }
         ensures small { IsSmallRow (entries_of result.now) }
     {
@@ -187,7 +202,7 @@ impl ComponentRows {
 
     // The row of a line of the component's band with this number, the line counted from the slice's first. It is empty where
     // there is none.
-    pub(crate) fn row(&self, number: usize, line: usize) -> &[i32]
+    pub(crate) fn row(&self, number: usize, line: usize) -> &[i16]
         ensures row { result.now ≡ row_of_component self.now number line }
         ensures small { IsSmallRow (entries_of result.now) }
     {

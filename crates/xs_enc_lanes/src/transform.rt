@@ -1,5 +1,5 @@
 // A component is transformed from the top, and the rows of a slice are taken as soon as they are known.
-ghost use Rattle.std.specs.Prelude.{◌≡◌, ◌+◌, ◌-◌, ◌*◌, ◌^◌, ◌<◌, ◌≤◌, ◌⊎◌, ◌++◌, ◌∷◌, [], min, true, false, length, IfOk, OnOk};
+ghost use Rattle.std.specs.Prelude.{◌≡◌, ℕ, ◌+◌, ◌-◌, ◌*◌, ◌^◌, ◌<◌, ◌≤◌, ◌⊎◌, ◌++◌, ◌∷◌, [], min, true, false, length, IfOk, OnOk};
 ghost use Rattle.xs_layout.specs.Geometry.{components_of};
 ghost use Rattle.xs_params.specs.Accepted.{IsAccepted};
 ghost use Rattle.xs_params.specs.Geometry.{band_component, bands_of, geometry_of, slice_count};
@@ -7,7 +7,7 @@ ghost use Rattle.xs_geometry.specs.SliceLines.{first_line_of, end_line_of};
 ghost use Rattle.xs_rate.specs.Coefficients.{rows_of_picture};
 ghost use Rattle.xs_picture.specs.Analysed.{IsGiven};
 ghost use Rattle.xs_enc_lanes.specs.Rows.{CarriesRows, component_in, slice_of};
-ghost use Rattle.xs_enc_lanes.specs.Transformed.{AreBandRows, AreFoldedBands, FitLines, HasReached, IsComponentOf, IsUnderWay, KnowsBand, KnowsSlice, rows_for};
+ghost use Rattle.xs_enc_lanes.specs.Transformed.{AreBandRows, AreFoldedBands, FitLines, HasReached, IsComponentOf, IsUnderWay, KeepsFrom, KnowsBand, KnowsSlice, rows_for};
 
 use crate::lines::LineRows;
 use crate::rows::{CoefRow, ComponentRows, SliceBandRows};
@@ -18,13 +18,15 @@ use xs_params::Header;
 use xs_picture::{Component, band_row, component_splitter};
 use xs_splitter::Splitter;
 
-// A component, what became of its first rows, the rows in which its lines are made, how many of them were taken, and whether
-// that is all.
+// A component, what became of its first rows, the rows in which its lines are made, and one in which those of bands are folded;
+// the first row of the lowest band that is kept, how many rows were taken, and whether that is all.
 #[derive(Drop)]
 pub(crate) struct Transform<'a> {
     component: Component<'a>,
     splitter: Splitter,
     rows: LineRows,
+    scratch: Vec<i32>,
+    kept: u32,
     taken: u32,
     done: bool,
 }
@@ -81,8 +83,8 @@ fn push_rows(
     requires component { IsComponentOf component }
     requires lines { (lines.0 ≤ lines.1) × (lines.1 ≤ component.header.now.shape.height) }
     requires fit { FitLines component rows.old }
-    requires first { IsGiven component.header.now component.picture.now component.number lines.0 splitter.old }
-    ensures given { IfOk result (λ _. IsGiven component.entry.header.now component.entry.picture.now component.entry.number lines.1 splitter.new) }
+    requires first { (from : ℕ) × IsGiven component.header.now component.picture.now component.number from lines.0 splitter.old }
+    ensures given { (from : ℕ) → IsGiven component.entry.header.now component.entry.picture.now component.entry.number from lines.0 splitter.old → IfOk result (λ _. IsGiven component.entry.header.now component.entry.picture.now component.entry.number from lines.1 splitter.new) }
     ensures fit { FitLines component.entry rows.new }
 {
     'lines: for line in lines.0..lines.1 {
@@ -97,6 +99,7 @@ impl<'a> Transform<'a> {
     pub(crate) fn new(alloc: Global, component: Component<'a>) -> Result<Transform<'a>, Memory>
         requires component { IsComponentOf component }
         ensures state { IfOk result (IsUnderWay component.entry) }
+        ensures kept { IfOk result (KeepsFrom 0) }
     {
         let splitter = component_splitter(alloc, component.header, component.number)?;
         let rows = LineRows::of(alloc, component)?;
@@ -104,6 +107,8 @@ impl<'a> Transform<'a> {
             component,
             splitter,
             rows,
+            scratch: Vec::new(alloc),
+            kept: 0,
             taken: 0,
             done: false,
         })
@@ -114,6 +119,7 @@ impl<'a> Transform<'a> {
         requires state { IsUnderWay self.old.component self.old }
         ensures state { IfOk result (λ _. IsUnderWay self.old.component self.new) }
         ensures reached { IfOk result (λ _. HasReached rows self.new) }
+        ensures kept { (slice : ℕ) → KeepsFrom slice self.old → KeepsFrom slice self.new }
     {
         if self.done {
             return Ok(());
@@ -136,19 +142,37 @@ impl<'a> Transform<'a> {
     }
 
     // The rows of a slice.
-    pub(crate) fn slice(&self, alloc: Global, slice: u32) -> Result<ComponentRows, Memory>
-        requires state { IsUnderWay self.now.component self.now }
-        requires there { slice < slice_count self.now.component.header.now }
-        requires reached { HasReached (rows_for self.now.component.header.now slice) self.now }
-        ensures carries { IfOk result (CarriesRows self.now.component.header.now (rows_of_picture self.now.component.header.now self.now.component.picture.now)) }
+    pub(crate) fn slice(&mut self, alloc: Global, slice: u32) -> Result<ComponentRows, Memory>
+        requires state { IsUnderWay self.old.component self.old }
+        requires there { slice < slice_count self.old.component.header.now }
+        requires reached { HasReached (rows_for self.old.component.header.now slice) self.old }
+        requires kept { KeepsFrom slice self.old }
+        ensures state { IsUnderWay self.old.component self.new }
+        ensures kept { KeepsFrom slice self.new }
+        ensures carries { IfOk result (CarriesRows self.old.component.header.now (rows_of_picture self.old.component.header.now self.old.component.picture.now)) }
         ensures slice { IfOk result (λ v. slice_of v ≡ slice) }
-        ensures component { IfOk result (λ v. component_in v ≡ self.now.component.number) }
+        ensures component { IfOk result (λ v. component_in v ≡ self.old.component.number) }
     {
         let header = self.component.header;
         let number = self.component.number;
         let components = header.shape.format.components();
-        let bands = folded_bands(alloc, &self.splitter, header, (slice, number))?;
+        let bands = folded_bands(&mut self.scratch, &self.splitter, header, (slice, number))?;
         ComponentRows::new(alloc, (slice, number), number + 1 == components, bands)
+    }
+
+    // Gives up the rows of a slice.
+    pub(crate) fn forget(&mut self, slice: u32)
+        requires state { IsUnderWay self.old.component self.old }
+        requires there { slice < slice_count self.old.component.header.now }
+        requires kept { KeepsFrom slice self.old }
+        ensures state { IsUnderWay self.old.component self.new }
+        ensures kept { KeepsFrom (slice + 1) self.new }
+    {
+        let header = self.component.header;
+        let (first, _) = Geometry::of(header).slice_precincts(slice);
+        let end = first + u32::from(header.hsl);
+        self.splitter.forget(self.kept, end);
+        self.kept = end;
     }
 }
 
@@ -160,7 +184,7 @@ fn add_band(bands: &mut Vec<SliceBandRows>, rows: SliceBandRows) -> Result<(), M
 
 // The rows of all bands of a component in a slice, by slice and component.
 fn folded_bands(
-    alloc: Global,
+    scratch: &mut Vec<i32>,
     splitter: &Splitter,
     header: &Header,
     place: (u32, u32),
@@ -173,10 +197,10 @@ fn folded_bands(
 {
     let geometry = Geometry::of(header);
     let components = header.shape.format.components();
-    let mut bands = Vec::new(alloc);
+    let mut bands = Vec::new(*scratch.allocator());
     'bands: for number in 0..geometry.bands() / components {
         let band = number * components + place.1;
-        let rows = folded_band(alloc, splitter, header, (place.0, band))?;
+        let rows = folded_band(scratch, splitter, header, (place.0, band))?;
         add_band(&mut bands, rows)?;
     }
     Ok(bands)
@@ -184,7 +208,7 @@ fn folded_bands(
 
 // The rows of a band in a slice, by slice and band.
 fn folded_band(
-    alloc: Global,
+    scratch: &mut Vec<i32>,
     splitter: &Splitter,
     header: &Header,
     place: (u32, u32),
@@ -197,10 +221,10 @@ fn folded_band(
 {
     let kind = Geometry::of(header).kind(place.1);
     let (first, end) = slice_lines(header, place.0, place.1);
-    let mut rows = SliceBandRows::new(alloc);
+    let mut rows = SliceBandRows::new(*scratch.allocator());
     'lines: for line in first..end {
         let numbers = band_row(splitter, kind, line as usize);
-        let row = CoefRow::folded(alloc, numbers, header.fq)?;
+        let row = CoefRow::folded(scratch, numbers, header.fq)?;
         rows.push(row)?;
     }
     Ok(rows)

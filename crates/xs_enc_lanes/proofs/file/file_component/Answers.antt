@@ -13,6 +13,7 @@ slices-init c = record {
   got = refl;
   stored = λ all. all;
   filed = λ k below. absurd (omega (arith, below));
+  kept = c.in_ok-transform.ensures.kept;
   state = c.in_ok-transform.ensures.state;
 }
 
@@ -34,11 +35,27 @@ slice-requires-clause-reached c =
     let state = still component c.slices.transform c.advance.new.self c.slices.invariant.state c.in_ok-advance.ensures.state in
     own_reached component c.advance.new.self c.slices.slice c.rows_for.result state c.rows_for.ensures c.in_ok-advance.ensures.reached
 
+pub slice-requires-clause-kept : goal.slice-requires-clause-kept
+slice-requires-clause-kept c = c.advance.ensures.kept c.slices.slice c.slices.invariant.kept
+
 pub put_rows-requires-clause-rows : goal.put_rows-requires-clause-rows
 put_rows-requires-clause-rows c =
     let component : Component = record { picture = c.args.job.now.picture; header = c.args.job.now.header; number = c.args.number } in
     let state = still component c.slices.transform c.advance.new.self c.slices.invariant.state c.in_ok-advance.ensures.state in
     own_rows component c.advance.new.self c.in_ok-slice.field-0 state c.in_ok-slice.ensures.carries
+
+pub forget-requires-clause-state : goal.forget-requires-clause-state
+forget-requires-clause-state c =
+    let component : Component = record { picture = c.args.job.now.picture; header = c.args.job.now.header; number = c.args.number } in
+    let state = still component c.slices.transform c.advance.new.self c.slices.invariant.state c.in_ok-advance.ensures.state in
+    own component c.slice.new.self (still component c.advance.new.self c.slice.new.self state c.slice.ensures.state)
+
+pub forget-requires-clause-there : goal.forget-requires-clause-there
+forget-requires-clause-there c =
+    let component : Component = record { picture = c.args.job.now.picture; header = c.args.job.now.header; number = c.args.number } in
+    let state = still component c.slices.transform c.advance.new.self c.slices.invariant.state c.in_ok-advance.ensures.state in
+    let below : c.slices.slice < slice_count c.args.job.now.header.now = omega (arith, c.slices-test.true, c.slices.auto.slice-end, c.slices-slice-end.ensures.count, ap slice_count c.of.ensures) in
+    own_slice component c.slice.new.self c.slices.slice (still component c.advance.new.self c.slice.new.self state c.slice.ensures.state) below
 
 pub slices-preserved : goal.slices-preserved
 slices-preserved c =
@@ -53,7 +70,8 @@ slices-preserved c =
       got = e.got ∙ i.got;
       stored = λ all. e.stored (i.stored all);
       filed = filed_more (view c.slices.pass) (view c.put_rows.new.pass) c.in_ok-slice.field-0 c.slices.slice c.args.number c.in_ok-slice.ensures.slice of i.filed e.others e.filed;
-      state = state;
+      kept = c.forget.ensures.kept;
+      state = still component c.slice.new.self c.forget.new.self (still component c.advance.new.self c.slice.new.self state c.slice.ensures.state) c.forget.ensures.state;
     }
 
 pub returns-clause-filed : goal.returns-clause-filed

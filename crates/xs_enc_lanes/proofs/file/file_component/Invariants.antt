@@ -1,7 +1,7 @@
 use Rattle.std.proofs.Common.{◌≡◌}
 use Rattle.xs_lanes.specs.Knowing.{SameShare}
 use Rattle.xs_lanes.specs.Passes.{IsPassOf, view}
-use Rattle.xs_enc_lanes.specs.Transformed.{IsUnderWay}
+use Rattle.xs_enc_lanes.specs.Transformed.{IsUnderWay, KeepsFrom}
 use Rattle.xs_enc_lanes.specs.Working.{AreFiledTo, StoresRows}
 use Rattle.xs_enc_lanes.proofs.file.file_component.Given as goal
 
@@ -12,5 +12,6 @@ invariant-slices l = record {
   got : (view l.pass).got ≡ (view l.initial.pass).got;
   stored : StoresRows l.job (view l.initial.pass) → StoresRows l.job (view l.pass);
   filed : AreFiledTo l.slice l.fn.number (view l.pass);
+  kept : KeepsFrom l.slice l.transform;
   state : IsUnderWay (record { picture = l.job.picture; header = l.job.header; number = l.fn.number }) l.transform;
 }
