@@ -1,7 +1,7 @@
 -- A pass files the packets of a part, one after the other.
-use Rattle.std.proofs.Common.{◌≡◌, ◌⊎◌, inl, inr, ◌<◌, length, List, [], ◌∷◌, ◌++◌, All, sym, ap, subst, arith}
+use Rattle.std.proofs.Common.{◌≡◌, ◌⊎◌, inl, inr, List, [], ◌∷◌, ◌++◌, All, sym, ap, subst}
 use Rattle.std.specs.List.{Contains}
-use Rattle.std.proofs.lemmas.List.Elements.{Contains-append_left, Contains-push, Contains-push_cases, All-push, All-weaker, All-contains_itself}
+use Rattle.std.proofs.lemmas.List.Elements.{Contains-append_left, Contains-push, All-push, All-weaker, All-contains_itself}
 use Rattle.xs_lane_core.specs.Machine.{Actor}
 use Rattle.xs_lanes.specs.declared.lanes.Put.{Put}
 use Rattle.xs_lanes.specs.declared.lanes.Put.TheVariants.{Stored, Made, Repeat}
@@ -27,36 +27,29 @@ is_filed : (v w : Actor Offer) (y : Offer) → Puts y v w → IsFiled w y
 is_filed v w y (inl p) = inl (subst (λ l. Contains l y) (sym p.0) (Contains-push v.stored y))
 is_filed v w y (inr p) = inr (subst (λ l. Contains l (y.unit, y.place)) (sym p.1) (Contains-push v.repeated (y.unit, y.place)))
 
-pub files_none : (part : List Offer) (v : Actor Offer) → FilesOf part v v
-files_none part v = All-weaker (Contains v.stored) (λ (x : Offer). Contains v.stored x ⊎ Contains part x) (λ x h. inl h) v.stored (All-contains_itself v.stored)
+pub files_none : (v : Actor Offer) → FilesOf [] v v
+files_none v = All-weaker (Contains v.stored) (λ (x : Offer). Contains v.stored x ⊎ Contains [] x) (λ x h. inl h) v.stored (All-contains_itself v.stored)
 
-pub files_more : (part : List Offer) (v u w : Actor Offer) (y : Offer) → FilesOf part v u → Puts y u w → Contains part y → FilesOf part v w
-files_more part v u w y f p c = of p
+files_still : (done : List Offer) (v u : Actor Offer) (y : Offer) → FilesOf done v u → FilesOf (done ++ y ∷ []) v u
+files_still done v u y f = All-weaker (λ (x : Offer). Contains v.stored x ⊎ Contains done x) (λ (x : Offer). Contains v.stored x ⊎ Contains (done ++ y ∷ []) x) each u.stored f
   where
-    of : Puts y u w → All (λ (x : Offer). Contains v.stored x ⊎ Contains part x) w.stored
-    of (inl q) = subst (All (λ (x : Offer). Contains v.stored x ⊎ Contains part x)) (sym q.0) (All-push (λ (x : Offer). Contains v.stored x ⊎ Contains part x) u.stored y f (inr c))
-    of (inr q) = subst (All (λ (x : Offer). Contains v.stored x ⊎ Contains part x)) (sym q.0) f
+    each : (x : Offer) → Contains v.stored x ⊎ Contains done x → Contains v.stored x ⊎ Contains (done ++ y ∷ []) x
+    each x (inl c) = inl c
+    each x (inr c) = inr (Contains-append_left done (y ∷ []) x c)
 
-pub left_all : (part : List Offer) (v : Actor Offer) → All (λ (x : Offer). Contains part x ⊎ IsFiled v x) part
-left_all part v = All-weaker (Contains part) (λ (x : Offer). Contains part x ⊎ IsFiled v x) (λ x h. inl h) part (All-contains_itself part)
-
-pub left_less : (part : List Offer) (u w : Actor Offer) (old rest : List Offer) (y : Offer) → old ≡ rest ++ y ∷ [] → All (λ (x : Offer). Contains old x ⊎ IsFiled u x) part → Puts y u w → All (λ (x : Offer). Contains rest x ⊎ IsFiled w x) part
-left_less part u w old rest y e all p = All-weaker (λ (x : Offer). Contains old x ⊎ IsFiled u x) (λ (x : Offer). Contains rest x ⊎ IsFiled w x) each part all
+-- one packet more
+pub files_more : (done : List Offer) (v u w : Actor Offer) (y : Offer) → FilesOf done v u → Puts y u w → FilesOf (done ++ y ∷ []) v w
+files_more done v u w y f p = of p
   where
-    split : (x : Offer) → Contains rest x ⊎ (y ≡ x) → Contains rest x ⊎ IsFiled w x
-    split x (inl c) = inl c
-    split x (inr q) = inr (subst (IsFiled w) q (is_filed u w y p))
+    Of : Offer → Type 0
+    Of x = Contains v.stored x ⊎ Contains (done ++ y ∷ []) x
 
-    each : (x : Offer) → Contains old x ⊎ IsFiled u x → Contains rest x ⊎ IsFiled w x
-    each x (inl c) = split x (Contains-push_cases rest y x (subst (λ l. Contains l x) e c))
-    each x (inr f) = inr (filed_still u w y x p f)
+    of : Puts y u w → All Of w.stored
+    of (inl q) = subst (All Of) (sym q.0) (All-push Of u.stored y (files_still done v u y f) (inr (Contains-push done y)))
+    of (inr q) = subst (All Of) (sym q.0) (files_still done v u y f)
 
-pub none_left : (part : List Offer) (w : Actor Offer) (rest : List Offer) → ¬ (0 < length rest) → All (λ (x : Offer). Contains rest x ⊎ IsFiled w x) part → All (IsFiled w) part
-none_left part w rest empty all = All-weaker (λ (x : Offer). Contains rest x ⊎ IsFiled w x) (IsFiled w) each part all
-  where
-    each : (x : Offer) → Contains rest x ⊎ IsFiled w x → IsFiled w x
-    each x (inl c) = absurd (empty (let lt = c.1 in omega arith))
-    each x (inr f) = f
+pub filed_more : (done : List Offer) (u w : Actor Offer) (y : Offer) → All (IsFiled u) done → Puts y u w → All (IsFiled w) (done ++ y ∷ [])
+filed_more done u w y all p = All-push (IsFiled w) done y (All-weaker (IsFiled u) (IsFiled w) (λ x. filed_still u w y x p) done all) (is_filed u w y p)
 
 -- Afterwards the activity files nothing
 

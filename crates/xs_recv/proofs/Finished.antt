@@ -18,6 +18,7 @@ use Rattle.xs_lanes.specs.Settled.{IsDone}
 use Rattle.xs_capture.specs.Selection.{AreMissing, Held, IsBounded}
 use Rattle.xs_board.specs.declared.head.HeadRead.{HeadRead}
 use Rattle.xs_stripe.specs.Stripe.{IsStripeOf, line_of}
+use Rattle.xs_stripe.specs.Written.{HasLinesOf}
 use Rattle.xs_handover.specs.Blocks.{Block, Carried, blocks, stripe_of}
 use Rattle.xs_handover.specs.Decoded.{AreRowsAt, IsDecodedBlock}
 use Rattle.xs_handover.specs.Passes.{actor, stripe_count}
@@ -28,7 +29,7 @@ use Rattle.xs_recv.specs.declared.activity.MadeStripe.{MadeStripe}
 use Rattle.xs_recv.specs.declared.activity.SliceCopy.{SliceCopy}
 use Rattle.xs_recv.specs.declared.finishing.Finishing.{Finishing}
 use Rattle.xs_recv.specs.declared.finishing.Left.{Left}
-use Rattle.xs_recv.specs.Received.{AreSpelled, HasLinesOf, HasStripeLines, IsReceived, IsSynthesised, stream_size}
+use Rattle.xs_recv.specs.Received.{AreSpelled, HasStripeLines, IsReceived, IsSynthesised, stream_size}
 use Rattle.xs_recv.specs.Handed.{AreStripesBy, HasMade, IsBlockIn, IsMadeBy}
 use Rattle.xs_recv.specs.Sweeping.{AreReadBy, IsGoodHead, IsKeptOf}
 use Rattle.xs_recv.specs.Finishing.{AreKeptBy, AreStripesOf, IsAnswerTo, IsFinished, IsRenewed, kept_of}

@@ -1,6 +1,6 @@
 -- Stripes that are claimed and made.
-use Rattle.std.proofs.Common.{◌≡◌, inl, inr, ℕ, suc, ◌<◌, ◌≤◌, Bool, true, false, refl, List, [], ◌∷◌, ◌++◌, All, sum_by, sym, ap, subst, ◌∙◌, arith}
-use Rattle.std.specs.Prelude.{Result, Ok, Err, OnOk}
+use Rattle.std.proofs.Common.{◌≡◌, inl, inr, ℕ, suc, ◌<◌, ◌≤◌, Bool, true, false, true≢false, refl, List, [], ◌∷◌, ◌++◌, All, sum_by, sym, ap, subst, ◌∙◌, arith}
+use Rattle.std.specs.Prelude.{Result, Ok, Err, OnOk, is_ok}
 use Rattle.std.specs.List.{Contains}
 use Rattle.std.proofs.lemmas.Bool.{cases_eq}
 use Rattle.std.proofs.lemmas.List.Elements.{All-append, All-cons, All-contains, All-contains_itself, All-push, All-weaker, Contains-append_left, Contains-append_right, Contains-push}
@@ -132,14 +132,20 @@ module _ (h : Header) (v w : Actor Carried) (slice : ℕ) (alone : IsAlone v) (g
       has : HasMade made slice
       has = let x = got_of v slice (gone.alone alone) in subst (HasMade made) x.2 (All-contains (λ (y : Carried). HasMade made (stripe_of y)) v.got x.0 by.each x.1)
 
--- where a call answers well, what holds then holds
-pub ok_always : {A E : Type 0} (P : Type 0) (r : Result A E) → P → OnOk r P
-ok_always P (Ok a) p = p
-ok_always P (Err e) p = tt
+-- A stripe that was found to be in part
 
-pub ok_then : {A E : Type 0} (P Q : Type 0) (r : Result A E) → (P → Q) → OnOk r P → OnOk r Q
-ok_then P Q (Ok a) f p = f p
-ok_then P Q (Err e) f p = tt
+pub part_stripes : (h : Header) (v w : Actor Carried) (slice set : ℕ) → HasSeenPart blocks v slice set w → (held : Held) (made : List MadeStripe) → AreStripesBy held h v made → AreStripesBy held h w made
+part_stripes h v w slice set part held made by = subst (λ (z : Actor Carried). AreStripesBy held h z made) (sym part.view) (record {
+  blocks = by.blocks;
+  made = All-weaker (λ (m : MadeStripe). IsMadeBy h v m.slice m.stripe) (λ (m : MadeStripe). IsMadeBy h (sees Idle slice set v) m.slice m.stripe)
+      (λ m one. record { values = one.values; run = one.run; got = one.got; is = one.is }) made by.made;
+  each = by.each;
+})
+
+-- what holds where a call answers well
+pub ok_is : {A E : Type 0} (P : Type 0) (r : Result A E) → is_ok r ≡ true → OnOk r P → P
+ok_is P (Ok a) is p = p
+ok_is P (Err e) is p = absurd (true≢false (sym is))
 
 -- Claims that hand nothing leave a stripe as whole as it was
 

@@ -180,6 +180,12 @@ rows_joined known other both kept add v w stripes more still still' k k' = recor
       (has_made_more more (stripes ++ more) w.got (Contains-append_right stripes more) k'.each);
 }
 
+-- what is read of a copy
+pub record IsReadOf {E : Type 0} (header : Option (Bor Header)) (r : Result SliceCopy E) (v w : Actor Carried) (copy : SliceCopy) : Type 0 where
+  pub slice : IfOk r (λ (c : SliceCopy). c.slice ≡ copy.slice)
+  pub bytes : IfOk r (λ (c : SliceCopy). c.bytes ≡ copy.bytes)
+  pub hands : IfOk r (λ (c : SliceCopy). HandsIf (option_copied header) copy.slice copy.bytes c.reading v w)
+
 -- a copy that was put at the end, where it was read
 pub copy_kept : {E : Type 0} (r : Result SliceCopy E) (before now : List SliceCopy) (slice : ℕ) (bytes : List ℕ) (P : SliceReading → Type 0) → MatchResult r (λ (c : SliceCopy). now ≡ before ++ c ∷ []) (λ (x : E). ⊥) → IfOk r (λ (c : SliceCopy). c.slice ≡ slice)
     → IfOk r (λ (c : SliceCopy). c.bytes ≡ bytes) → IfOk r (λ (c : SliceCopy). P c.reading) → (reading : SliceReading) × P reading × (now ≡ before ++ (record { slice = slice; bytes = bytes; reading = reading }) ∷ [])

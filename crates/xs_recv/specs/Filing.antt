@@ -24,10 +24,6 @@ Puts p v w = ((w.stored ≡ v.stored ++ p ∷ []) × (w.repeated ≡ v.repeated)
 abbrev pub FilesOf : List Offer → Actor Offer → Actor Offer → Type 0
 FilesOf part v w = All (λ (p : Offer). Contains v.stored p ⊎ Contains part p) w.stored
 
--- each packet of the part is still to be filed, or is filed
-abbrev pub IsLeft : List Offer → Actor Offer → List Offer → Type 0
-IsLeft part w rest = All (Contains part) rest × All (λ (p : Offer). Contains rest p ⊎ IsFiled w p) part
-
 -- An activity filed its part and nothing else.
 pub record HasRun (e : Exchange) (old new : Doing) : Type 0 where
   pub pass : IsBoardPass e.board new.pass

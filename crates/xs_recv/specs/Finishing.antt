@@ -1,10 +1,8 @@
 -- How the caller finishes a picture: it hands what is left of the slices, makes the stripes that are left, and fills the picture.
-use Rattle.std.specs.Prelude.{◌≡◌, ◌≢◌, ◌⊎◌, ℕ, ◌+◌, ◌<◌, ◌≤◌, Bool, true, Result, Ok, Err, List, [], All, length}
-use Rattle.xs_layout.specs.declared.Shape.{Shape}
-use Rattle.xs_layout.specs.Geometry.{components_of}
+use Rattle.std.specs.Prelude.{◌≡◌, ◌⊎◌, ℕ, ◌+◌, ◌<◌, ◌≤◌, Bool, true, Result, Ok, Err, List, [], All, length}
 use Rattle.xs_params.specs.declared.header.Header.{Header}
 use Rattle.xs_params.specs.Geometry.{slice_count}
-use Rattle.xs_params.specs.Picture.{AreSamples, Picture, width_of}
+use Rattle.xs_params.specs.Picture.{Picture}
 use Rattle.xs_params.specs.Rows.{Rows}
 use Rattle.xs_decoding.specs.Decoded.{IsPictureOf}
 use Rattle.xs_lane_core.specs.Machine.{Actor, newcomer}
@@ -12,8 +10,7 @@ use Rattle.xs_lane_core.specs.Sound.{IsAlone}
 use Rattle.xs_lanes.specs.Knowing.{IsChoice, IsWhole}
 use Rattle.xs_lanes.specs.Claiming.{got_in}
 use Rattle.xs_capture.specs.Selection.{HasBytes, Held}
-use Rattle.xs_stripe.specs.declared.stripe.Stripe.{Stripe}
-use Rattle.xs_stripe.specs.Stripe.{HasRow, IsStripeOf, stripe_row}
+use Rattle.xs_stripe.specs.Stripe.{IsStripeOf}
 use Rattle.xs_handover.specs.Blocks.{Carried, blocks}
 use Rattle.xs_handover.specs.Passes.{IsHandPass, actor, stripe_count}
 use Rattle.xs_recv.specs.declared.activity.Kept.{Kept}
@@ -93,15 +90,3 @@ HaveStripes h made = (slice : ℕ) → slice < slice_count h → HasMade made sl
 abbrev pub IsAnswerTo : Result Header Stop → List MadeStripe → Received → Type 0
 IsAnswerTo (Ok h) made answer = (picture : Picture) × (answer ≡ received.Picture picture) × ((rows : Rows) → AreStripesOf h rows made → HaveStripes h made → IsPictureOf h rows picture)
 IsAnswerTo (Err why) made answer = why ≡ stop.Answer answer
-
--- the row fits into a picture of this shape
-pub record IsRowFor (shape : Shape) (component : ℕ) (row : List ℕ) : Type 0 where
-  pub wide : length row ≡ width_of shape component
-  pub small : AreSamples shape.depth row
-
--- The stripe's lines are lines of a picture of this shape, and it has the rows of all components in them.
-pub record IsStripeFor (shape : Shape) (stripe : Stripe) : Type 0 where
-  pub order : stripe.first ≤ stripe.end
-  pub within : stripe.end ≤ shape.height
-  pub there : (component line : ℕ) → component < components_of shape.format → stripe.first ≤ line → line < stripe.end → HasRow stripe component line
-  pub rows : (component line : ℕ) → component < components_of shape.format → stripe.first ≤ line → line < stripe.end → IsRowFor shape component (stripe_row stripe component line)

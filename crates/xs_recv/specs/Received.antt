@@ -1,8 +1,8 @@
 -- What is received of a picture, by the packets that are selected of its offers: 'RTP packets and captures' and 'Notes'.
-use Rattle.std.specs.Prelude.{◌≡◌, ◌≢◌, ⊤, ℕ, ◌+◌, ◌*◌, ◌<◌, ◌≤◌, ◌⊎◌, true, false, Option, None, Some, List, All, [], length, sum_by, flat_map, slice_index, slice_index_or}
+use Rattle.std.specs.Prelude.{◌≡◌, ◌≢◌, ⊤, ℕ, ◌+◌, ◌*◌, ◌<◌, ◌⊎◌, true, false, Option, None, Some, List, All, [], length, sum_by, flat_map, slice_index_or}
 use Rattle.xs_params.specs.declared.header.Header.{Header}
 use Rattle.xs_params.specs.Geometry.{slice_count}
-use Rattle.xs_params.specs.Picture.{IsPlace, Picture, sample_at}
+use Rattle.xs_params.specs.Picture.{Picture}
 use Rattle.xs_faults.specs.declared.SliceFault.{SliceFault}
 use Rattle.xs_grammar.specs.Header.{IsHeaderUnit}
 use Rattle.xs_grammar.specs.Precinct.{Content}
@@ -13,7 +13,8 @@ use Rattle.xs_decoding.specs.Decoded.{IsDecodingOf}
 use Rattle.xs_lane_core.specs.Machine.{Actor}
 use Rattle.xs_lanes.specs.Claiming.{got_in}
 use Rattle.xs_stripe.specs.declared.stripe.Stripe.{Stripe}
-use Rattle.xs_stripe.specs.Stripe.{line_of, stripe_row}
+use Rattle.xs_stripe.specs.Stripe.{line_of}
+use Rattle.xs_stripe.specs.Written.{HasLinesOf}
 use Rattle.xs_handover.specs.Blocks.{Carried, blocks}
 use Rattle.xs_capture.specs.Offer.{Offer}
 use Rattle.xs_capture.specs.Selection.{Held, IsWholeUnit, HasBytes, AreMissing}
@@ -88,11 +89,6 @@ IsReceived held (received.Picture picture) =
     × ((h.lcod ≡ 0) ⊎ (h.lcod ≡ stream_size size units)) × IsDecodingOf h content picture
 
 -- Stripes
-
--- the picture has the stripe's samples in the stripe's lines
-abbrev pub HasLinesOf : Picture → Stripe → Type 0
-HasLinesOf picture stripe = (component line column : ℕ) → IsPlace picture.shape component line column → stripe.first ≤ line → line < stripe.end
-    → slice_index (stripe_row stripe component line) column ≡ sample_at picture component line column
 
 -- The lines of a slice are those of a stripe that was synthesised of what was got.
 pub record HasStripeLines (h : Header) (picture : Picture) (v : Actor Carried) (slice : ℕ) : Type 0 where

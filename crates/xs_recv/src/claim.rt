@@ -29,6 +29,19 @@ pub(crate) enum Tried {
     Starved,
 }
 
+impl SliceCopy {
+    // One that is still to be read.
+    fn unread(slice: u32, bytes: Octets) -> SliceCopy
+        ensures { result ≡ record { slice = slice; bytes = bytes; reading = Unread } }
+    {
+        SliceCopy {
+            slice,
+            bytes,
+            reading: SliceReading::Unread,
+        }
+    }
+}
+
 // Reads a slice by the header, and hands its rows.
 fn hand_rows(
     alloc: Global,
@@ -141,18 +154,11 @@ impl Activity {
         ensures starved { StarvesNot self.old self.new }
         ensures swept { GetsWhole (slice + 1) self.old self.new }
     {
-        match exchange
-            .board
-            .claim_slice(self.alloc, &mut self.pass, slice)
-        {
+        let board = &exchange.board;
+        match board.claim_slice(self.alloc, &mut self.pass, slice) {
             Ok(SliceClaim::Got(bytes)) => {
-                let handover = &exchange.handover;
-                let copy = SliceCopy {
-                    slice,
-                    bytes,
-                    reading: SliceReading::Unread,
-                };
-                let read = read_copy(self.alloc, handover, &mut self.hand, header, copy);
+                let copy = SliceCopy::unread(slice, bytes);
+                let read = read_copy(self.alloc, &exchange.handover, &mut self.hand, header, copy);
                 if add_copy(&mut self.kept, read) {
                     return Tried::Got;
                 }

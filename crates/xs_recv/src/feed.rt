@@ -23,8 +23,8 @@ fn file(board: &Board, pass: &mut BoardPass, packet: Packet)
     drop(board.file(pass, packet));
 }
 
-// Files all packets of a part.
-fn file_all(board: &Board, pass: &mut BoardPass, mut part: Vec<Packet>)
+// Files all packets of a part, the first one first.
+fn file_all(board: &Board, pass: &mut BoardPass, part: Vec<Packet>)
     requires pass { IsBoardPass board.now pass.old }
     requires units { All (λ p. p.unit < unit_count board.now) part.items }
     ensures pass { IsBoardPass board.now pass.new }
@@ -34,7 +34,7 @@ fn file_all(board: &Board, pass: &mut BoardPass, mut part: Vec<Packet>)
     ensures files { FilesOf part.items (actor pass.old) (actor pass.new) }
     ensures each { All (IsFiled (actor pass.new)) part.items }
 {
-    'feeding: while let Some(packet) = part.pop() {
+    'feeding: for packet in part {
         file(board, pass, packet);
     }
 }

@@ -1,18 +1,15 @@
 // A picture is filled from stripes.
-ghost use Rattle.std.specs.Prelude.{◌≡◌, ◌≢◌, ◌⊎◌, ℕ, ◌<◌, ◌≤◌, IfOk, slice_index};
+ghost use Rattle.std.specs.Prelude.{IfOk};
 ghost use Rattle.xs_params.specs.Accepted.{IsAccepted};
-ghost use Rattle.xs_params.specs.Picture.{IsPicture, IsPlace, IsRow, sample_at, width_of};
+ghost use Rattle.xs_params.specs.Picture.{IsPicture};
 ghost use Rattle.xs_params.specs.Rows.{Rows};
 ghost use Rattle.xs_decoding.specs.Decoded.{IsPictureOf};
-ghost use Rattle.xs_stripe.specs.Stripe.{HasRow, stripe_row};
-ghost use Rattle.xs_recv.specs.Received.{HasLinesOf};
-ghost use Rattle.xs_recv.specs.Finishing.{AreStripesOf, HaveStripes, IsRowFor, IsStripeFor};
+ghost use Rattle.xs_recv.specs.Finishing.{AreStripesOf, HaveStripes};
 
 use crate::activity::MadeStripe;
 use std::alloc::Global;
 use xs_io::Memory;
 use xs_params::{Header, Planes};
-use xs_stripe::Stripe;
 
 // The picture of the stripes of all slices, in any order. Each stripe is given up when its rows are copied.
 pub(crate) fn fill_picture(
@@ -27,51 +24,10 @@ pub(crate) fn fill_picture(
     let mut picture = Planes::blank(alloc, header.shape)?;
     let mut stripes = made;
     'filling: while let Some(next) = stripes.pop() {
-        put_stripe(&next.stripe, &mut picture);
+        next.stripe.write_to(&mut picture);
     }
     known_picture(&picture);
     Ok(picture)
-}
-
-// Writes all lines of a stripe.
-fn put_stripe(stripe: &Stripe, picture: &mut Planes)
-    requires { IsStripeFor picture.old.shape stripe.now }
-    ensures shape { picture.new.shape ≡ picture.old.shape }
-    ensures lines { HasLinesOf picture.new stripe.now }
-    ensures others { (component line column : ℕ) → IsPlace picture.old.shape component line column → (line < stripe.now.first) ⊎ (stripe.now.end ≤ line)
-        → sample_at picture.new component line column ≡ sample_at picture.old component line column }
-{
-    let (first, end) = stripe.lines();
-    'lines: for line in first..end {
-        put_line(stripe, line, picture);
-    }
-}
-
-// Writes a line of a stripe, in each component.
-fn put_line(stripe: &Stripe, line: u32, picture: &mut Planes)
-    requires stripe { IsStripeFor picture.old.shape stripe.now }
-    requires line { (stripe.now.first ≤ line) × (line < stripe.now.end) }
-    ensures shape { picture.new.shape ≡ picture.old.shape }
-    ensures written { (component column : ℕ) → IsPlace picture.old.shape component line column → slice_index (stripe_row stripe.now component line) column ≡ sample_at picture.new component line column }
-    ensures others { (component other column : ℕ) → IsPlace picture.old.shape component other column → other ≢ line → sample_at picture.new component other column ≡ sample_at picture.old component other column }
-{
-    let components = picture.shape().format.components();
-    'components: for component in 0..components {
-        put_row(stripe, component, line, picture);
-    }
-}
-
-// Writes a line of a stripe in a component.
-fn put_row(stripe: &Stripe, component: u32, line: u32, picture: &mut Planes)
-    requires there { HasRow stripe.now component line }
-    requires row { IsRow picture.old.shape component line }
-    requires fits { IsRowFor picture.old.shape component (stripe_row stripe.now component line) }
-    ensures shape { picture.new.shape ≡ picture.old.shape }
-    ensures written { (column : ℕ) → column < width_of picture.old.shape component → slice_index (stripe_row stripe.now component line) column ≡ sample_at picture.new component line column }
-    ensures others { (other row column : ℕ) → IsPlace picture.old.shape other row column → (other ≢ component) ⊎ (row ≢ line) → sample_at picture.new other row column ≡ sample_at picture.old other row column }
-{
-    known_picture(picture);
-    picture.set_row(component, line, stripe.row(component, line));
 }
 
 // What the type of planes says of them.

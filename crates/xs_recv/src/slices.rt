@@ -191,7 +191,8 @@ impl Finishing {
         }
     }
 
-    // Hands the rows of all slices, as far as that was not done. The length of the codestream.
+    // Hands the rows of all slices, as far as that was not done, and makes each stripe that was not claimed before as soon as its
+    // rows are handed, but for the last. The length of the codestream.
     pub(crate) fn hand_all(
         &mut self,
         board: &ClosedBoard,
@@ -206,7 +207,7 @@ impl Finishing {
         requires started { AreStarted (held_in board.now.actor.stored) header.now self.old places }
         ensures pass { IsFinishing self.new }
         ensures room { slice_count header.now ≤ stripe_count self.new.handover }
-        ensures stripes { AreStripesBy (held_in board.now.actor.stored) header.now (actor self.new.stripes.hand) self.new.stripes.made.items }
+        ensures stripes { OnOk result (AreStripesBy (held_in board.now.actor.stored) header.now (actor self.new.stripes.hand) self.new.stripes.made.items) }
         ensures handed { MatchResult result (λ total. AreHandedUpTo (held_in board.now.actor.stored) header.now size (slice_count header.now) (actor self.new.stripes.hand) total)
             (λ why. IsChoice blocks (actor self.new.stripes.hand) → IsStop (held_in board.now.actor.stored) why) }
     {
@@ -222,6 +223,7 @@ impl Finishing {
             };
             let more = copy.bytes.len() as u32;
             self.hand_copy(alloc, header, copy, trusted)?;
+            self.make_before(alloc, header, slice)?;
             length += more;
         }
         Ok(length)

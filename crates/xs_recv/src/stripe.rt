@@ -1,5 +1,5 @@
 // An activity claims stripes, and keeps them.
-ghost use Rattle.std.specs.Prelude.{◌≡◌, ◌≤◌, ◌++◌, ◌∷◌, [], true};
+ghost use Rattle.std.specs.Prelude.{◌≡◌, ◌≤◌, ◌++◌, ◌∷◌, [], OnOk};
 ghost use Rattle.xs_params.specs.Geometry.{slice_count};
 ghost use Rattle.xs_board.specs.Passes.{knows};
 ghost use Rattle.xs_handover.specs.Passes.{IsHandPass, stripe_count};
@@ -12,11 +12,11 @@ use xs_handover::StripeClaim;
 use xs_io::Memory;
 use xs_params::Header;
 
-// Puts a stripe at the end. False where memory is wanting.
-fn add_stripe(stripes: &mut Vec<MadeStripe>, stripe: MadeStripe) -> bool
-    ensures { result ≡ true → stripes.new.items ≡ stripes.old.items ++ stripe ∷ [] }
+// Puts a stripe at the end.
+pub(crate) fn keep_stripe(made: &mut Vec<MadeStripe>, stripe: MadeStripe) -> Result<(), Memory>
+    ensures { OnOk result (made.new.items ≡ made.old.items ++ stripe ∷ []) }
 {
-    stripes.push(stripe).is_ok()
+    made.push(stripe).map_err(|_| Memory)
 }
 
 impl Activity {
@@ -33,7 +33,7 @@ impl Activity {
             .claim_stripe(self.alloc, &mut self.hand, header, slice)
         {
             Ok(StripeClaim::Got(stripe)) => {
-                if add_stripe(&mut self.stripes, MadeStripe { slice, stripe }) {
+                if keep_stripe(&mut self.stripes, MadeStripe { slice, stripe }).is_ok() {
                     return Tried::Got;
                 }
                 self.starved = true;

@@ -1,5 +1,5 @@
 // The stripes that are left are made, and the handover is closed.
-ghost use Rattle.std.specs.Prelude.{◌≡◌, ◌<◌, ◌≤◌, ◌∷◌, ◌++◌, [], ℕ, OnOk, All, Contains};
+ghost use Rattle.std.specs.Prelude.{◌≡◌, ◌<◌, ◌≤◌, ℕ, true, false, IfOk, OnOk, All, Contains};
 ghost use Rattle.xs_params.specs.Accepted.{IsAccepted};
 ghost use Rattle.xs_params.specs.Geometry.{slice_count};
 ghost use Rattle.xs_lanes.specs.Claiming.{got_in};
@@ -14,21 +14,67 @@ ghost use Rattle.xs_recv.specs.Finishing.{HaveAll, IsFinishing, IsWholeIfChosen}
 
 use crate::activity::{MadeStripe, Stripes};
 use crate::finishing::Finishing;
+use crate::stripe::keep_stripe;
 use std::alloc::Global;
 use xs_geometry::Geometry;
 use xs_handover::{ClosedHandover, StripeClaim};
 use xs_io::Memory;
 use xs_params::Header;
 
-// Puts a stripe at the end.
-fn keep_stripe(made: &mut Vec<MadeStripe>, stripe: MadeStripe) -> Result<(), Memory>
-    ensures { OnOk result (made.new.items ≡ made.old.items ++ stripe ∷ []) }
-{
-    made.push(stripe).map_err(|_| Memory)
-}
-
 impl Finishing {
-    // Makes the stripe of a slice, unless it was claimed before.
+    // Makes the stripe of a slice, unless it was claimed before. False where not all its rows are handed.
+    fn try_make(&mut self, alloc: Global, header: &Header, slice: u32) -> Result<bool, Memory>
+        requires pass { IsFinishing self.old }
+        requires accepted { IsAccepted header.now }
+        requires slice { slice < slice_count header.now }
+        requires room { slice_count header.now ≤ stripe_count self.old.handover }
+        ensures pass { IsFinishing self.new }
+        ensures same { self.new.handover ≡ self.old.handover }
+        ensures hands { HandsNothing (actor self.old.stripes.hand) (actor self.new.stripes.hand) }
+        ensures grows { GetsMore (actor self.old.stripes.hand) (actor self.new.stripes.hand) }
+        ensures part { IfOk result (λ claimed. claimed ≡ false → IsWholeIfChosen slice (actor self.old.stripes.hand) → ⊥) }
+        ensures got { IfOk result (λ claimed. claimed ≡ true → 0 < got_in blocks slice (actor self.new.stripes.hand)) }
+        ensures kept { OnOk result ((made : MadeStripe) → Contains self.old.stripes.made.items made → Contains self.new.stripes.made.items made) }
+        ensures made { IfOk result (λ claimed. (held : Held) → AreStripesBy held header.now (actor self.old.stripes.hand) self.old.stripes.made.items
+            → AreStripesBy held header.now (actor self.new.stripes.hand) self.new.stripes.made.items × (claimed ≡ true → HasMade self.new.stripes.made.items slice)) }
+    {
+        let claim = self
+            .handover
+            .claim_stripe(alloc, &mut self.stripes.hand, header, slice)?;
+        match claim {
+            StripeClaim::Got(stripe) => {
+                keep_stripe(&mut self.stripes.made, MadeStripe { slice, stripe })?;
+                Ok(true)
+            }
+            StripeClaim::Gone => Ok(true),
+            StripeClaim::NotWhole(_) => Ok(false),
+        }
+    }
+
+    // Makes the stripe of the slice before, where there is one and all its rows are handed.
+    pub(crate) fn make_before(
+        &mut self,
+        alloc: Global,
+        header: &Header,
+        slice: u32,
+    ) -> Result<(), Memory>
+        requires pass { IsFinishing self.old }
+        requires accepted { IsAccepted header.now }
+        requires slice { slice < slice_count header.now }
+        requires room { slice_count header.now ≤ stripe_count self.old.handover }
+        ensures pass { IsFinishing self.new }
+        ensures same { self.new.handover ≡ self.old.handover }
+        ensures hands { HandsNothing (actor self.old.stripes.hand) (actor self.new.stripes.hand) }
+        ensures made { OnOk result ((held : Held) → AreStripesBy held header.now (actor self.old.stripes.hand) self.old.stripes.made.items
+            → AreStripesBy held header.now (actor self.new.stripes.hand) self.new.stripes.made.items) }
+    {
+        if slice > 0 {
+            self.try_make(alloc, header, slice - 1)?;
+        }
+        Ok(())
+    }
+
+    // Makes the stripe of a slice whose rows are all handed, unless it was claimed before.
     fn make(&mut self, alloc: Global, header: &Header, slice: u32) -> Result<(), Memory>
         requires pass { IsFinishing self.old }
         requires accepted { IsAccepted header.now }
@@ -44,16 +90,10 @@ impl Finishing {
         ensures made { OnOk result ((held : Held) → AreStripesBy held header.now (actor self.old.stripes.hand) self.old.stripes.made.items
             → AreStripesBy held header.now (actor self.new.stripes.hand) self.new.stripes.made.items × HasMade self.new.stripes.made.items slice) }
     {
-        let claim = self
-            .handover
-            .claim_stripe(alloc, &mut self.stripes.hand, header, slice)?;
-        match claim {
-            StripeClaim::Got(stripe) => {
-                keep_stripe(&mut self.stripes.made, MadeStripe { slice, stripe })
-            }
-            StripeClaim::Gone => Ok(()),
-            StripeClaim::NotWhole(_) => unreachable!(),
+        if !self.try_make(alloc, header, slice)? {
+            unreachable!()
         }
+        Ok(())
     }
 
     // Makes all stripes that were not claimed before.

@@ -15,7 +15,7 @@ use crate::exchange::Exchange;
 use xs_board::{Board, BoardPass, HeadRead};
 
 impl Activity {
-    // Claims each slice that is left, and reads none.
+    // Claims each slice that is left, and reads none. Where memory is wanting, it stops.
     fn sweep_slices(&mut self, exchange: &Exchange)
         requires pass { IsBoardPass exchange.now.board self.old.pass }
         requires hand { IsHandPass exchange.now.handover self.old.hand }
@@ -29,11 +29,14 @@ impl Activity {
     {
         let slices = exchange.board.units() - 1;
         'sweeping: for slice in 0..slices {
+            if self.is_starved() {
+                return;
+            }
             self.try_slice(exchange, None, slice);
         }
     }
 
-    // Claims the header unit and each slice that is left, and reads no slice.
+    // Claims the header unit and each slice that is left, and reads no slice. Nothing where memory was wanting.
     pub(crate) fn sweep(&mut self, exchange: &Exchange)
         requires pass { IsBoardPass exchange.now.board self.old.pass }
         requires hand { IsHandPass exchange.now.handover self.old.hand }
@@ -43,6 +46,9 @@ impl Activity {
         ensures hand { HasHand exchange.now.handover self.old.hand self.new.hand }
         ensures all { GetsAll (unit_count exchange.now.board) self.old self.new }
     {
+        if self.is_starved() {
+            return;
+        }
         self.try_header(exchange);
         self.sweep_slices(exchange);
     }
@@ -67,22 +73,18 @@ impl Activity {
         ensures done { IsDone packets (actor self.pass) }
     {
         let Activity {
-            alloc: _,
             mut pass,
             hand,
-            part,
-            role: _,
             head,
             kept,
             stripes: made,
-            starved: _,
+            ..
         } = self;
         let Exchange {
             board,
             handover,
-            stripes: _,
+            ..
         } = exchange;
-        drop(part);
         let trusted = is_shown(&board, &mut pass, &head);
         let kept = Kept {
             head,

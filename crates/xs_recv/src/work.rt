@@ -114,7 +114,8 @@ impl Activity {
         board.header(&mut self.pass)
     }
 
-    // One look at the header unit, or where a header is known, at its slices. False where the worker ends.
+    // One look at the header unit, or where a header is known, at its slices, unless nothing can be claimed any more. False where
+    // the worker ends.
     fn scan<G: Gate>(&mut self, exchange: &Exchange, worker: &mut Worker, gate: &G) -> bool
         requires pass { IsBoardPass exchange.now.board self.old.pass }
         requires hand { IsHandPass exchange.now.handover self.old.hand }
@@ -123,6 +124,9 @@ impl Activity {
         ensures files { FilesNothing (actor self.old.pass) (actor self.new.pass) }
         ensures hand { HasHand exchange.now.handover self.old.hand self.new.hand }
     {
+        if worker.is_over() {
+            return true;
+        }
         let Some(head) = self.shown(&exchange.board) else {
             return worker.goes_on(self.try_header(exchange));
         };

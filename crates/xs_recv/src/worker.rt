@@ -13,7 +13,8 @@ pub(crate) const SCANS: u32 = 8192;
 const SLICES: usize = 2047;
 
 // The number of a worker, how many of its scans claimed nothing, how many slices it got, whether its scan claimed nothing so
-// far, and met a unit or a stripe for which others are needed, and which slices and which stripes it knows to be claimed.
+// far, and met a unit or a stripe for which others are needed, whether nothing can be claimed any more, and which slices and
+// which stripes it knows to be claimed.
 #[derive(Drop)]
 pub(crate) struct Worker {
     number: u32,
@@ -21,6 +22,7 @@ pub(crate) struct Worker {
     won: u32,
     idle: bool,
     waits: bool,
+    over: bool,
     done: [bool; SLICES],
     made: [bool; SLICES],
 }
@@ -33,6 +35,7 @@ impl Worker {
             won: 0,
             idle: true,
             waits: false,
+            over: false,
             done: [false; SLICES],
             made: [false; SLICES],
         }
@@ -42,6 +45,11 @@ impl Worker {
     pub(crate) fn begin(&mut self) {
         self.idle = true;
         self.waits = false;
+    }
+
+    // Whether a scan claimed nothing and met nothing for which others are needed. No later scan can claim anything then.
+    pub(crate) fn is_over(&self) -> bool {
+        self.over
     }
 
     // Whether the slice is known to be claimed.
@@ -130,6 +138,7 @@ impl Worker {
         if !self.idle {
             return true;
         }
+        self.over = !self.waits;
         self.turn = self.turn.saturating_add(1);
         if !gate.pass(self.number, self.turn, self.won) {
             return false;

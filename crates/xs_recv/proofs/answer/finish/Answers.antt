@@ -23,7 +23,7 @@ returns-in_err-check_length-clause-finished c =
     let e = c.in_err-check_length.ensures in
     rw (p.1, p.2) (λ choice. subst (IsStop (held_in c.args.board.now.actor.stored)) (sym e.2) (
       length_received (held_in c.args.board.now.actor.stored) c.in_ok-header.header c.in_ok-header.size (actor c.hand_all.new.self.stripes.hand) c.in_ok-length.length c.in_ok-header.ensures.found.spelled.4.accepted choice
-          c.hand_all.ensures.stripes.blocks c.hand_all.ensures.pass.pass.decoded c.in_ok-length.ensures.handed c.in_ok-header.ensures.found e.0 e.1,
+          c.in_ok-length.ensures.stripes.blocks c.hand_all.ensures.pass.pass.decoded c.in_ok-length.ensures.handed c.in_ok-header.ensures.found e.0 e.1,
       tt,
     ))
 
@@ -31,7 +31,7 @@ pub make_all-requires-clause-whole : goal.make_all-requires-clause-whole
 make_all-requires-clause-whole c slice there =
     let v = actor c.hand_all.new.self.stripes.hand in
     let so = c.in_ok-length.ensures.handed in
-    whole_stripe (held_in c.args.board.now.actor.stored) c.in_ok-header.header v slice there c.hand_all.ensures.stripes.blocks
+    whole_stripe (held_in c.args.board.now.actor.stored) c.in_ok-header.header v slice there c.in_ok-length.ensures.stripes.blocks
     (filed_of c.in_ok-header.header v slice (λ k below. (get_or so.units k [], so.handed k below)) there)
 
 pub returns-clause-finished : goal.returns-clause-finished
@@ -40,7 +40,7 @@ returns-clause-finished c =
     let h = c.in_ok-header.header in
     let v = actor c.hand_all.new.self.stripes.hand in
     let w = actor c.make_all.new.self.stripes.hand in
-    let made = c.in_ok-make_all.ensures.made (held_in c.args.board.now.actor.stored) c.hand_all.ensures.stripes in
+    let made = c.in_ok-make_all.ensures.made (held_in c.args.board.now.actor.stored) c.in_ok-length.ensures.stripes in
     record {
       size = c.in_ok-header.size;
       headed = c.in_ok-header.ensures.found;

@@ -10,7 +10,7 @@ use Rattle.xs_recv.specs.declared.activity.SliceCopy.{SliceCopy}
 use Rattle.xs_recv.specs.declared.activity.SliceReading.{SliceReading}
 use Rattle.xs_recv.specs.Activities.{Doing, HandsIf, IsReadable, Keeps, KeepsRows}
 use Rattle.xs_recv.proofs.Keeping.{keeps_copy, keeps_same, still_same}
-use Rattle.xs_recv.proofs.Rows.{copy_kept, rows_copy, rows_known}
+use Rattle.xs_recv.proofs.Rows.{IsReadOf, copy_kept, rows_copy, rows_known}
 use Rattle.xs_recv.proofs.Swept.{alone_inside, has_got, slice_gone_got, slice_part_got, slice_swept}
 use Rattle.xs_recv.proofs.activity.Activity.try_slice.Goals as goal
 
@@ -23,9 +23,11 @@ invariant_of-self c = λ sated.
     let h = has_got v w (c.args.slice + 1) c.in-Ok-Got.bytes u in
     let before = hand_actor c.self.inside.hand in
     let now = hand_actor c.read_copy-read.new.hand in
+    let read = subst (IsReadOf c.args.header c.read_copy-read.result before now) c.unread-copy.ensures
+    (record { slice = c.read_copy-read.ensures.slice; bytes = c.read_copy-read.ensures.bytes; hands = c.read_copy-read.ensures.hands }) in
     let can = subst (λ (z : Doing). IfSome c.args.header (λ (x : Bor Header). IsReadable (knows z.pass) x.now c.args.slice)) (sym c.self.view_is) c.requires.header in
     let added = copy_kept c.read_copy-read.result c.self.inside.kept.items c.add_copy.new.kept.items c.args.slice c.in-Ok-Got.bytes (λ (r : SliceReading). HandsIf (option_copied c.args.header) c.args.slice c.in-Ok-Got.bytes r before now)
-    (c.add_copy.ensures c.if-add_copy.true) c.read_copy-read.ensures.slice c.read_copy-read.ensures.bytes c.read_copy-read.ensures.hands in
+    (c.add_copy.ensures c.if-add_copy.true) read.slice read.bytes read.hands in
     let new : SliceCopy = record { slice = c.args.slice; bytes = c.in-Ok-Got.bytes; reading = added.0 } in
     let all = c.self.inside.kept.items ++ new ∷ [] in
     let still = still_same (knows c.self.inside.pass) (knows c.claim_slice.new.pass) c.claim_slice.ensures.knows in (

@@ -1,4 +1,4 @@
-use Rattle.std.proofs.Common.{ap, refl, subst, sym}
+use Rattle.std.proofs.Common.{◌≡◌, ◌∷◌, ◌++◌, [], ap, refl, subst, sym, ◌∙◌}
 use Rattle.xs_lane_core.specs.Machine.{Actor}
 use Rattle.xs_board.specs.Passes.{knows}
 use Rattle.xs_handover.specs.Answers.{StripeAnswers}
@@ -8,6 +8,7 @@ use Rattle.xs_recv.specs.declared.activity.MadeStripe.{MadeStripe}
 use Rattle.xs_recv.specs.Activities.{Doing, IsReadable, KeepsRows}
 use Rattle.xs_recv.proofs.Rows.{rows_same, rows_stripe}
 use Rattle.xs_recv.proofs.Keeping.{still_same}
+use Rattle.xs_recv.proofs.Made.{ok_is}
 use Rattle.xs_recv.proofs.activity.Activity.try_stripe.Goals as goal
 
 pub invariant_of-self : goal.invariant_of-self
@@ -19,7 +20,7 @@ invariant_of-self c = λ sated.
     let can = subst (λ (z : Doing). IsReadable (knows z.pass) c.args.header.now c.args.slice) (sym c.self.view_is) c.requires.header in
     let new : MadeStripe = record { slice = c.args.slice; stripe = c.in-Ok-Got.stripe } in (
       k.0,
-      subst (KeepsRows (knows c.self.inside.pass) c.self.inside.kept.items w) (sym (c.add_stripe.ensures c.if-add_stripe.true))
+      subst (KeepsRows (knows c.self.inside.pass) c.self.inside.kept.items w) (sym (ok_is (c.keep_stripe.new.made.items ≡ c.self.inside.stripes.items ++ new ∷ []) c.keep_stripe.result (sym c.is_ok.ensures.value ∙ c.if-is_ok.true) c.keep_stripe.ensures))
           (rows_stripe (knows c.self.inside.pass) c.self.inside.kept.items v w c.self.inside.stripes.items c.args.header.now u.values new can.shown c.claim_stripe.ensures.hands.stored c.claim_stripe.ensures.hands.repeated
           (ap (λ (z : Actor Carried). z.got) u.got.view) u.got.run u.is k.1),
     )

@@ -10,7 +10,7 @@ use Rattle.xs_handover.specs.Passes.{actor, stripe_count}
 use Rattle.xs_recv.specs.declared.activity.MadeStripe.{MadeStripe}
 use Rattle.xs_recv.specs.Handed.{AreHanded, AreStripesBy}
 use Rattle.xs_recv.specs.Reading.{AreHandedUpTo, IsSliceStop}
-use Rattle.xs_recv.proofs.Handed.{later_both, later_by, later_none, read_still, stripes_still}
+use Rattle.xs_recv.proofs.Handed.{later_both, later_by, later_none, later_nothing, read_still, stripes_still}
 use Rattle.xs_recv.proofs.Sizes.{handed_short}
 use Rattle.xs_recv.proofs.Pictures.{handed_after, more_handed, none_handed, slice_stops}
 use Rattle.xs_recv.proofs.InOrder.{left_more}
@@ -63,24 +63,6 @@ hand_copy-requires-clause-trusted c =
     let t = copy_taken (held_in c.args.board.now.actor.stored) c.args.header.now (actor c.args.self.now.stripes.hand) c.args.places.trusted c.args.places.list.items c.slices.list.items c.slices.slice c.in-Some.copy c.requires.receivable
     c.requires.headed.spelled.4.accepted c.requires.started.readable there c.slices.invariant.left c.in-Some.ensures.taken in
     λ e. read_still first v h c.in-Some.copy.slice c.in-Some.copy.bytes c.in-Some.copy.reading c.slices.invariant.later (t.read e)
-
-pub returns-in_err-hand_copy-clause-stripes : goal.returns-in_err-hand_copy-clause-stripes
-returns-in_err-hand_copy-clause-stripes c =
-    let held = held_in c.args.board.now.actor.stored in
-    let h = c.args.header.now in
-    let first = actor c.args.self.now.stripes.hand in
-    let v = actor c.slices.self.stripes.hand in
-    let count : c.slices-slice-end.result ≡ slice_count c.args.header.now = c.slices-slice-end.ensures.count ∙ ap slice_count c.of.ensures in
-    let there : c.slices.slice < slice_count c.args.header.now = omega (arith, count, c.slices-test.true, c.slices.auto.slice-end) in
-    let t = copy_taken (held_in c.args.board.now.actor.stored) c.args.header.now (actor c.args.self.now.stripes.hand) c.args.places.trusted c.args.places.list.items c.slices.list.items c.slices.slice c.in-Some.copy c.requires.receivable
-    c.requires.headed.spelled.4.accepted c.requires.started.readable there c.slices.invariant.left c.in-Some.ensures.taken in
-    let w = actor c.hand_copy.new.self.stripes.hand in
-    let source = source_of c.args.header.now c.in-Some.copy.slice c.in-Some.copy.bytes in
-    let whole = subst (λ k. HasBytes (held_in c.args.board.now.actor.stored) (k + 1) c.in-Some.copy.bytes) (sym t.here) t.whole in
-    let later = later_by source v w c.hand_copy.ensures.only in
-    let stripes = subst (λ (l : List MadeStripe). AreStripesBy (held_in c.args.board.now.actor.stored) c.args.header.now (actor c.hand_copy.new.self.stripes.hand) l) (sym c.hand_copy.ensures.same.1)
-    (stripes_still held source v w c.slices.self.stripes.made.items whole c.hand_copy.ensures.only c.slices.invariant.stripes) in
-    stripes
 
 pub returns-in_err-hand_copy-clause-handed : goal.returns-in_err-hand_copy-clause-handed
 returns-in_err-hand_copy-clause-handed c =
@@ -143,14 +125,17 @@ slices-preserved c =
     (stripes_still held source v w c.slices.self.stripes.made.items whole c.hand_copy.ensures.only c.slices.invariant.stripes) in
     let now = subst (λ k. AreHanded c.args.header.now k c.in-Some.copy.bytes (actor c.hand_copy.new.self.stripes.hand)) t.here c.in_ok-hand_copy.ensures.handed in
     let more = more_handed held h c.args.size c.slices.slice v w c.in-Some.copy.bytes c.slices.length c.slices.invariant.handed later t.whole now in
+    let x = actor c.make_before.new.self.stripes.hand in
+    let on = later_nothing w x c.make_before.ensures.hands in
     record {
       count = ap length c.take_copy.ensures.left ∙ (length-set c.slices.list.items c.slices.slice None ∙ c.slices.invariant.count);
       left = left_more c.args.places.list.items c.slices.list.items c.take_copy.new.places.items c.slices.slice c.take_copy.ensures.left c.slices.invariant.left;
-      pass = c.hand_copy.ensures.pass;
-      room = subst (λ (x : Handover). slice_count c.args.header.now ≤ stripe_count x) (sym c.hand_copy.ensures.same.0) c.slices.invariant.room;
-      later = later_both first v w c.slices.invariant.later later;
-      stripes = stripes;
-      handed = subst (λ n. AreHandedUpTo (held_in c.args.board.now.actor.stored) c.args.header.now c.args.size (c.slices.slice + 1) (actor c.hand_copy.new.self.stripes.hand) (c.slices.length + n)) (sym c.len-more.ensures.count) more;
+      pass = c.make_before.ensures.pass;
+      room = subst (λ (x : Handover). slice_count c.args.header.now ≤ stripe_count x) (sym (c.make_before.ensures.same ∙ c.hand_copy.ensures.same.0)) c.slices.invariant.room;
+      later = later_both first w x (later_both first v w c.slices.invariant.later later) on;
+      stripes = c.in_ok-make_before.ensures.made (held_in c.args.board.now.actor.stored) stripes;
+      handed = subst (λ n. AreHandedUpTo (held_in c.args.board.now.actor.stored) c.args.header.now c.args.size (c.slices.slice + 1) (actor c.make_before.new.self.stripes.hand) (c.slices.length + n)) (sym c.len-more.ensures.count)
+          (handed_after held h c.args.size (c.slices.slice + 1) w x (c.slices.length + length c.in-Some.copy.bytes) on more);
     }
 
 pub returns-clause-handed : goal.returns-clause-handed
