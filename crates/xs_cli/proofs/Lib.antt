@@ -25,3 +25,5 @@ mod FileSent
 mod Begun
 mod Good
 mod Runs
+mod RawGiven
+mod RawTaken

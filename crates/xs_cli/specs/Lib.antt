@@ -13,3 +13,4 @@ pub mod CapturedLaws
 pub mod Tried
 pub mod Trying
 pub mod TriedLaws
+pub mod RawRead

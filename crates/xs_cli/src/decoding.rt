@@ -11,16 +11,15 @@ ghost use Rattle.xs_cli.specs.Decoded.{input_limit};
 ghost use Rattle.xs_cli.specs.Steps.{AreStreamsDecoded, IsBadEnd, IsCommandStop, IsDone, IsNext, IsOwnNote, IsTold};
 
 use crate::input::{DONE, MOST_PICTURES};
+use crate::raw_output::write_raw;
 use crate::receiving::Crew;
 use std::alloc::Global;
 use std::thread::Threads;
-use xs_endings::{Stop, give};
+use xs_endings::Stop;
 use xs_faults::{HeadFault, SliceFault, StreamFault};
 use xs_io::{Gate, Memory, Sink, Source, TakeFault, take_all};
 use xs_notes::Note;
-use xs_params::Planes;
 use xs_picture::{decode_picture, last_slice};
-use xs_samples::write_picture;
 use xs_words::Form;
 
 /// The most bytes that an input of decoding may have.
@@ -114,20 +113,12 @@ fn next<W: Sink>(
     ensures later { IsLater (change_of (W.held output.old) (W.held output.new) (W.faults output.old) (W.faults output.new)) }
 {
     match decode_picture(alloc, rest) {
-        Ok((planes, size)) => match write(alloc, &planes, output) {
+        Ok((planes, size)) => match write_raw(alloc, &planes, output) {
             Ok(()) => Ok(size),
             Err(why) => Err(why),
         },
         Err(fault) => Err(refusal(alloc, picture, place, rest, fault)),
     }
-}
-
-/// Writes a raw picture as one piece.
-fn write<W: Sink>(alloc: Global, planes: &Planes, output: &mut W) -> Result<(), Stop>
-    ensures { IsGiven (change_of (W.held output.old) (W.held output.new) (W.faults output.old) (W.faults output.new)) (raw_bytes planes.now) result }
-{
-    let raw = write_picture(alloc, planes)?;
-    give(output, raw.as_slice())
 }
 
 /// How it is told that no codestream stands next.

@@ -1,5 +1,5 @@
 // Raw pictures become codestreams, one after the other: 'Runs'.
-ghost use Rattle.std.specs.Prelude.{◌≡◌, ◌≢◌, ◌+◌, ◌++◌, ◌*◌, ◌%◌, ◌<◌, ◌≤◌, ◌^◌, ℕ, [], IfErr, length, flat_map, All, IfOk, is_ok, if◌then◌else◌};
+ghost use Rattle.std.specs.Prelude.{◌≡◌, ◌≢◌, ◌+◌, ◌++◌, ◌*◌, ◌%◌, ◌<◌, ◌≤◌, ◌^◌, ℕ, List, [], IfErr, length, flat_map, All, IfOk, is_ok, if◌then◌else◌};
 ghost use Rattle.xs_params.specs.Check.{AreInRange};
 ghost use Rattle.xs_params.specs.Picture.{raw_size};
 ghost use Rattle.xs_words.specs.declared.command.Command.TheVariants as Commands;
@@ -11,10 +11,12 @@ ghost use Rattle.xs_params.specs.Stream.{stream_bytes};
 ghost use Rattle.xs_capture.specs.Pictures.{most_pictures};
 ghost use Rattle.xs_pack.specs.Datagrams.{IsPackable};
 ghost use Rattle.xs_cli.specs.Encoded.{FitsEnvelope, encode_turn, enveloped, file_front, packets_sent, timestamp_of, written_as, written_in};
+ghost use Rattle.xs_cli.specs.RawRead.{IsRawOf};
 ghost use Rattle.xs_cli.specs.Places.{IsStreamAt, before_of};
 ghost use Rattle.xs_cli.specs.Steps.{AreDoneQuietly, IsDoneQuietly, IsOwnNote};
 
 use crate::input::{DONE, MOST_PICTURES, read};
+use crate::raw_input::{RawPicture, read_raw};
 use std::alloc::Global;
 use std::thread::Threads;
 use xs_capture::write_frame;
@@ -26,7 +28,7 @@ use xs_notes::Note;
 use xs_pack::{Datagrams, pack};
 use xs_params::{Checked, Stream};
 use xs_pcap::{file_header, wrap};
-use xs_samples::{SampleFault, raw_size, read_picture};
+use xs_samples::raw_size;
 use xs_words::Form;
 
 /// Where a picture stands: its number, its place in the input, and the number of its first packet.
@@ -86,14 +88,13 @@ fn pictures<T: Threads + Sync, R: Source, W: Sink, G: Gate>(
         (change_of (R.left input.old) (R.left input.new) (R.faults input.old) (R.faults input.new))
         (change_of (W.held output.old) (W.held output.new) (W.faults output.old) (W.faults output.new)) result }
 {
-    let size = raw_size(&settings.settings().shape);
+    let shape = &settings.settings().shape;
+    let size = raw_size(shape);
     let mut sequence = 0;
     'pictures: for picture in 0..MOST_PICTURES {
-        let bytes = read(alloc, input, size)?;
-        let raw = bytes.as_slice();
-        if raw.is_empty() {
+        let Some(raw) = read_raw(alloc, input, shape)? else {
             return Ok(DONE);
-        }
+        };
         let place = place_of(picture, size, sequence);
         let packets = put(threads, alloc, settings, form, place, raw, output, gate)?;
         sequence = next_sequence(sequence, packets);
@@ -137,19 +138,18 @@ fn put<T: Threads + Sync, W: Sink, G: Gate>(
     settings: &Checked,
     form: Form,
     place: Place,
-    bytes: &[u8],
+    raw: RawPicture,
     output: &mut W,
     gate: &G,
 ) -> Result<u32, Stop>
     requires few { place.picture < most_pictures }
     requires small { place.byte ≤ 2 ^ 36 }
-    requires some { bytes.now ≢ [] }
-    requires most { length bytes.now ≤ raw_size settings.now.shape }
-    ensures taken { IsTaken (change_of (W.held output.old) (W.held output.new) (W.faults output.old) (W.faults output.new)) (encode_turn settings.now form (before_of place) bytes.now) result }
+    requires raw { (bytes : List ℕ) × IsRawOf settings.now.shape bytes raw }
+    ensures taken { (bytes : List ℕ) → IsRawOf settings.now.shape bytes raw → IsTaken (change_of (W.held output.old) (W.held output.new) (W.faults output.old) (W.faults output.new)) (encode_turn settings.now form (before_of place) bytes) result }
     ensures own { IfErr result IsOwnNote }
     ensures later { IsLater (change_of (W.held output.old) (W.held output.new) (W.faults output.old) (W.faults output.new)) }
 {
-    let stream = stream_of(threads, alloc, settings, place, bytes, gate)?;
+    let stream = stream_of(threads, alloc, settings, place, raw, gate)?;
     write(alloc, settings, form, place, &stream, output)
 }
 
@@ -159,32 +159,30 @@ fn stream_of<T: Threads + Sync, G: Gate>(
     alloc: Global,
     settings: &Checked,
     place: Place,
-    bytes: &[u8],
+    raw: RawPicture,
     gate: &G,
 ) -> Result<Stream, Stop>
     requires few { place.picture < most_pictures }
     requires small { place.byte ≤ 2 ^ 36 }
-    requires some { bytes.now ≢ [] }
-    requires most { length bytes.now ≤ raw_size settings.now.shape }
-    ensures stream { IsStreamAt settings.now (before_of place) bytes.now result }
+    requires raw { (bytes : List ℕ) × IsRawOf settings.now.shape bytes raw }
+    ensures stream { (bytes : List ℕ) → IsRawOf settings.now.shape bytes raw → IsStreamAt settings.now (before_of place) bytes result }
     ensures packable { IfOk result (IsPackable settings.now) }
     ensures range { AreInRange settings.now }
     ensures own { IfErr result IsOwnNote }
 {
-    let shape = &settings.settings().shape;
-    if bytes.len() < raw_size(shape) {
-        return Err(Stop::Told(Note::InputCut {
-            place: place.byte + bytes.len() as u64,
-        }));
-    }
-    let planes = match read_picture(alloc, shape, bytes) {
-        Ok(planes) => planes,
-        Err(SampleFault::Sample { place: at }) => {
+    known_settings(settings);
+    let planes = match raw {
+        RawPicture::Whole(planes) => planes,
+        RawPicture::Cut { length } => {
+            return Err(Stop::Told(Note::InputCut {
+                place: place.byte + u64::from(length),
+            }));
+        }
+        RawPicture::Sample { place: at } => {
             return Err(Stop::Told(Note::InputSample {
                 place: place.byte + u64::from(at),
             }));
         }
-        Err(SampleFault::Memory) => return Err(Stop::Memory),
     };
     match encode_threaded(threads, alloc, &planes, settings, gate) {
         Ok(encoded) => Ok(encoded.stream),
@@ -196,6 +194,13 @@ fn stream_of<T: Threads + Sync, G: Gate>(
         })),
         Err(SliceRefusal::Memory) => Err(Stop::Memory),
     }
+}
+
+// What is true of all settings that were checked.
+fn known_settings(settings: &Checked)
+    ensures { AreInRange settings.now }
+{
+    let _settings = settings.settings();
 }
 
 /// Writes a codestream as one piece, or each of its packets as one.

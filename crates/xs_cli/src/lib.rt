@@ -7,6 +7,8 @@ mod captures;
 mod decoding;
 mod encoding;
 mod input;
+mod raw_input;
+mod raw_output;
 mod receiving;
 mod start;
 mod top;

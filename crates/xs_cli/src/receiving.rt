@@ -13,16 +13,16 @@ ghost use Rattle.xs_cli.specs.Decoded.{input_limit};
 ghost use Rattle.xs_cli.specs.Steps.{IsCommandStop};
 
 use crate::input::DONE;
+use crate::raw_output::write_raw;
 use std::alloc::Global;
 use std::thread::Threads;
 use xs_capture::{SortFault, Sorted, sort_pictures};
-use xs_endings::{Stop, give, note_status, tell};
+use xs_endings::{Stop, note_status, tell};
 use xs_io::{Gate, Numbers, Sink};
 use xs_notes::Note;
 use xs_params::Planes;
 use xs_pcap::{PcapFault, unwrap};
 use xs_recv::{Damage, Received, receive_picture};
-use xs_samples::write_picture;
 
 /// Packets are missing.
 const MISSING: u8 = 5;
@@ -227,8 +227,7 @@ fn write<W: Sink>(alloc: Global, planes: &Planes, output: &mut W) -> Result<u8, 
     ensures given { IsGiven (change_of (W.held output.old) (W.held output.new) (W.faults output.old) (W.faults output.new)) (raw_bytes planes.now) result }
     ensures done { IfOk result (λ status. status ≡ 0) }
 {
-    let raw = write_picture(alloc, planes)?;
-    match give(output, raw.as_slice()) {
+    match write_raw(alloc, planes, output) {
         Ok(()) => Ok(DONE),
         Err(why) => Err(why),
     }

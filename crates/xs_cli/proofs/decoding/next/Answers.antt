@@ -6,7 +6,7 @@ use Rattle.xs_cli.proofs.decoding.next.Goals as goal
 pub returns-in-Ok-clause-next : goal.returns-in-Ok-clause-next
 returns-in-Ok-clause-next g c = λ sequence.
     let read : IsPictureRead c.in-Ok.planes c.args.rest.now c.in-Ok.size = search rules in
-    unwritten (record { pictures = c.args.picture; bytes = c.args.place; sequence = sequence }) c.args.rest.now c.in-Ok.planes c.in-Ok.size _ c.in-Err-write.why (some_there c.args.rest.now c.requires.some) c.requires.few read c.in-Err-write.ensures
+    unwritten (record { pictures = c.args.picture; bytes = c.args.place; sequence = sequence }) c.args.rest.now c.in-Ok.planes c.in-Ok.size _ c.in-Err-write_raw.why (some_there c.args.rest.now c.requires.some) c.requires.few read c.in-Err-write_raw.ensures
 
 pub returns-clause-next : goal.returns-clause-next
 returns-clause-next g c = λ sequence.
