@@ -1,6 +1,7 @@
 // Codestreams become raw pictures, one after the other, or a capture does: 'Runs'.
 ghost use Rattle.std.specs.Prelude.{◌≡◌, ◌≢◌, ◌+◌, ◌<◌, ◌≤◌, ◌^◌, ℕ, None, Some, IfErr, length, []};
 ghost use Rattle.xs_capture.specs.Pictures.{most_pictures};
+ghost use Rattle.xs_io.specs.Bytes.{AreByteItems};
 ghost use Rattle.xs_endings.specs.Ends.{IsLater, change_of, ends_of};
 ghost use Rattle.xs_endings.specs.Steps.{IsGiven};
 ghost use Rattle.xs_params.specs.Picture.{raw_bytes};
@@ -12,12 +13,12 @@ ghost use Rattle.xs_cli.specs.Steps.{AreStreamsDecoded, IsBadEnd, IsCommandStop,
 
 use crate::input::{DONE, MOST_PICTURES};
 use crate::raw_output::write_raw;
-use crate::receiving::Crew;
+use crate::receiving::Receiver;
 use std::alloc::Global;
 use std::thread::Threads;
 use xs_endings::Stop;
 use xs_faults::{HeadFault, SliceFault, StreamFault};
-use xs_io::{Gate, Memory, Sink, Source, TakeFault, take_all};
+use xs_io::{Gate, Memory, Octets, Sink, Source, TakeFault, take_all};
 use xs_notes::Note;
 use xs_picture::{decode_picture, last_slice};
 use xs_words::Form;
@@ -25,55 +26,51 @@ use xs_words::Form;
 /// The most bytes that an input of decoding may have.
 const INPUT_LIMIT: u64 = 1 << 30;
 
-/// How the input is decoded.
-#[derive(Clone, Copy)]
-pub struct Decoding {
+/// How the input is decoded: in which form it comes, and what the pictures of a capture are received with.
+#[derive(Drop)]
+pub struct Decoder<'a, T, G> {
     pub form: Form,
-    pub crew: Crew,
+    pub receiver: Receiver<'a, T, G>,
 }
 
-impl Decoding {
+impl<'a, T: Threads + Sync, G: Gate> Decoder<'a, T, G> {
     /// Reads the whole input, and decodes the codestreams in it or receives the pictures of the capture or pcap file that it is. Past its
     /// limit one byte is taken.
-    pub fn decode<T: Threads + Sync, R: Source, W: Sink, N: Sink, G: Gate>(
+    pub fn decode<R: Source, W: Sink, N: Sink>(
         &self,
-        threads: &T,
-        alloc: Global,
         input: &mut R,
         output: &mut W,
         notes: &mut N,
-        gate: &G,
     ) -> Result<u8, Stop>
-        requires some { 1 ≤ self.now.crew.feeders }
-        requires few { self.now.crew.feeders ≤ 8 }
-        ensures { IsDone (Commands.Decode self.now.form self.now.crew.workers self.now.crew.feeders) (ends_of
+        requires some { 1 ≤ self.now.receiver.crew.feeders }
+        requires few { self.now.receiver.crew.feeders ≤ 8 }
+        ensures { IsDone (Commands.Decode self.now.form self.now.receiver.crew.workers self.now.receiver.crew.feeders) (ends_of
             (change_of (R.left input.old) (R.left input.new) (R.faults input.old) (R.faults input.new))
             (change_of (W.held output.old) (W.held output.new) (W.faults output.old) (W.faults output.new))
             (change_of (N.held notes.old) (N.held notes.new) (N.faults notes.old) (N.faults notes.new))) result }
     {
+        let alloc = self.receiver.alloc;
         match take_all(alloc, input, INPUT_LIMIT) {
-            Ok(bytes) => match self.form {
-                Form::Xs => streams(alloc, bytes.as_slice(), output),
-                Form::Rtp => self
-                    .crew
-                    .receive(threads, alloc, bytes.as_slice(), 0, output, notes, gate),
-                Form::Pcap { port } => {
-                    self.crew.receive_file(
-                        threads,
-                        alloc,
-                        bytes.as_slice(),
-                        port,
-                        output,
-                        notes,
-                        gate,
-                    )
+            Ok(bytes) => {
+                known_bytes(&bytes);
+                match self.form {
+                    Form::Xs => streams(alloc, bytes.as_slice(), output),
+                    Form::Rtp => self.receiver.receive(bytes, 0, output, notes),
+                    Form::Pcap { port } => self.receiver.receive_file(bytes, port, output, notes),
                 }
-            },
+            }
             Err(TakeFault::Limit) => Err(Stop::Told(Note::InputLimit { limit: INPUT_LIMIT })),
             Err(TakeFault::Failed) => Err(Stop::ReadFault),
             Err(TakeFault::Memory) => Err(Stop::Memory),
         }
     }
+}
+
+// What the type of bytes says of them.
+fn known_bytes(bytes: &Octets)
+    ensures { AreByteItems bytes.now }
+{
+    let _items = bytes.as_slice();
 }
 
 /// Decodes codestreams one after the other, and writes each picture as it comes.

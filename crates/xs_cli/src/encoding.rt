@@ -46,22 +46,150 @@ pub enum Envelope {
     Record { timestamp: u32, port: u16 },
 }
 
-/// Writes what stands before the pictures, and then the pictures.
-pub fn encode<T: Threads + Sync, R: Source, W: Sink, G: Gate>(
-    threads: &T,
-    alloc: Global,
-    settings: &Checked,
-    form: Form,
-    input: &mut R,
-    output: &mut W,
-    gate: &G,
-) -> Result<u8, Stop>
-    ensures { IsDoneQuietly (Commands.Encode settings.now form)
-        (change_of (R.left input.old) (R.left input.new) (R.faults input.old) (R.faults input.new))
-        (change_of (W.held output.old) (W.held output.new) (W.faults output.old) (W.faults output.new)) result }
-{
-    begin(form, output)?;
-    pictures(threads, alloc, settings, form, input, output, gate)
+/// What each picture of a run is encoded with, and the form that it is written in.
+#[derive(Drop)]
+pub struct Encoder<'a, T, G> {
+    pub threads: &'a T,
+    pub alloc: Global,
+    pub gate: &'a G,
+    pub settings: &'a Checked,
+    pub form: Form,
+}
+
+impl<'a, T: Threads + Sync, G: Gate> Encoder<'a, T, G> {
+    /// Writes what stands before the pictures, and then the pictures.
+    pub fn run<R: Source, W: Sink>(&self, input: &mut R, output: &mut W) -> Result<u8, Stop>
+        ensures { IsDoneQuietly (Commands.Encode self.now.settings.now self.now.form)
+            (change_of (R.left input.old) (R.left input.new) (R.faults input.old) (R.faults input.new))
+            (change_of (W.held output.old) (W.held output.new) (W.faults output.old) (W.faults output.new)) result }
+    {
+        begin(self.form, output)?;
+        self.pictures(input, output)
+    }
+
+    /// Reads raw pictures one after the other, and writes each as it comes. At most one picture is held at a time.
+    fn pictures<R: Source, W: Sink>(&self, input: &mut R, output: &mut W) -> Result<u8, Stop>
+        ensures { AreDoneQuietly self.now.settings.now self.now.form
+            (change_of (R.left input.old) (R.left input.new) (R.faults input.old) (R.faults input.new))
+            (change_of (W.held output.old) (W.held output.new) (W.faults output.old) (W.faults output.new)) result }
+    {
+        let shape = &self.settings.settings().shape;
+        let size = raw_size(shape);
+        let mut sequence = 0;
+        'pictures: for picture in 0..MOST_PICTURES {
+            let Some(raw) = read_raw(self.alloc, input, shape)? else {
+                return Ok(DONE);
+            };
+            let place = place_of(picture, size, sequence);
+            let packets = self.put(place, raw, output)?;
+            sequence = next_sequence(sequence, packets);
+        }
+        let more = read(self.alloc, input, 1)?;
+        let byte = more.as_slice();
+        if byte.is_empty() {
+            return Ok(DONE);
+        }
+        Err(Stop::Told(Note::InputPictures {
+            count: MOST_PICTURES + 1,
+        }))
+    }
+
+    /// Encodes and writes one picture, and answers the number of its packets.
+    fn put<W: Sink>(&self, place: Place, raw: RawPicture, output: &mut W) -> Result<u32, Stop>
+        requires few { place.picture < most_pictures }
+        requires small { place.byte ≤ 2 ^ 36 }
+        requires raw { (bytes : List ℕ) × IsRawOf self.now.settings.now.shape bytes raw }
+        ensures taken { (bytes : List ℕ) → IsRawOf self.now.settings.now.shape bytes raw → IsTaken (change_of (W.held output.old) (W.held output.new) (W.faults output.old) (W.faults output.new)) (encode_turn self.now.settings.now self.now.form (before_of place) bytes) result }
+        ensures own { IfErr result IsOwnNote }
+        ensures later { IsLater (change_of (W.held output.old) (W.held output.new) (W.faults output.old) (W.faults output.new)) }
+    {
+        let stream = self.stream_of(place, raw)?;
+        self.write(place, &stream, output)
+    }
+
+    /// The codestream of a picture.
+    fn stream_of(&self, place: Place, raw: RawPicture) -> Result<Stream, Stop>
+        requires few { place.picture < most_pictures }
+        requires small { place.byte ≤ 2 ^ 36 }
+        requires raw { (bytes : List ℕ) × IsRawOf self.now.settings.now.shape bytes raw }
+        ensures stream { (bytes : List ℕ) → IsRawOf self.now.settings.now.shape bytes raw → IsStreamAt self.now.settings.now (before_of place) bytes result }
+        ensures packable { IfOk result (IsPackable self.now.settings.now) }
+        ensures range { AreInRange self.now.settings.now }
+        ensures own { IfErr result IsOwnNote }
+    {
+        known_settings(self.settings);
+        let planes = match raw {
+            RawPicture::Whole(planes) => planes,
+            RawPicture::Cut { length } => {
+                return Err(Stop::Told(Note::InputCut {
+                    place: place.byte + u64::from(length),
+                }));
+            }
+            RawPicture::Sample { place: at } => {
+                return Err(Stop::Told(Note::InputSample {
+                    place: place.byte + u64::from(at),
+                }));
+            }
+        };
+        match encode_threaded(self.threads, self.alloc, &planes, self.settings, self.gate) {
+            Ok(encoded) => Ok(encoded.stream),
+            Err(SliceRefusal::Budget(budget)) => Err(Stop::Told(Note::Budget {
+                picture: place.picture,
+                slice: budget.slice,
+                size: budget.size,
+                share: budget.share,
+            })),
+            Err(SliceRefusal::Memory) => Err(Stop::Memory),
+        }
+    }
+
+    /// Writes a codestream as one piece, or each of its packets as one.
+    fn write<W: Sink>(&self, place: Place, stream: &Stream, output: &mut W) -> Result<u32, Stop>
+        requires few { place.picture < most_pictures }
+        requires packable { IsPackable self.now.settings.now stream.now }
+        requires range { AreInRange self.now.settings.now }
+        ensures taken { IsTaken (change_of (W.held output.old) (W.held output.new) (W.faults output.old) (W.faults output.new)) (written_as self.now.settings.now self.now.form (before_of place) stream.now) result }
+        ensures own { IfErr result IsOwnNote }
+        ensures later { IsLater (change_of (W.held output.old) (W.held output.new) (W.faults output.old) (W.faults output.new)) }
+    {
+        match self.form {
+            Form::Xs => write_stream(self.alloc, stream, output),
+            Form::Rtp => self.write_packets(Envelope::Frame, place, stream, output),
+            Form::Pcap { port } => {
+                let timestamp = timestamp_of(self.settings, place.picture);
+                let record = Envelope::Record { timestamp, port };
+                self.write_packets(record, place, stream, output)
+            }
+        }
+    }
+
+    /// Writes the packets of a codestream, each after its length, and answers their number.
+    fn write_packets<W: Sink>(
+        &self,
+        envelope: Envelope,
+        place: Place,
+        stream: &Stream,
+        output: &mut W,
+    ) -> Result<u32, Stop>
+        requires few { place.picture < most_pictures }
+        requires packable { IsPackable self.now.settings.now stream.now }
+        requires range { AreInRange self.now.settings.now }
+        ensures taken { IsTaken (change_of (W.held output.old) (W.held output.new) (W.faults output.old) (W.faults output.new)) (written_in self.now.settings.now envelope (packets_sent self.now.settings.now (before_of place) stream.now)) result }
+        ensures own { IfErr result IsOwnNote }
+        ensures later { IsLater (change_of (W.held output.old) (W.held output.new) (W.faults output.old) (W.faults output.new)) }
+    {
+        let packets = pack(
+            self.alloc,
+            stream,
+            self.settings,
+            place.picture,
+            place.sequence,
+        )?;
+        match give_packets(self.alloc, &packets, envelope, output) {
+            Ok(()) => Ok(packets.len()),
+            Err(why) => Err(why),
+        }
+    }
 }
 
 /// Gives the header of a pcap file, as one piece.
@@ -72,41 +200,6 @@ fn begin<W: Sink>(form: Form, output: &mut W) -> Result<(), Stop>
         Form::Pcap { .. } => give(output, &file_header()),
         Form::Rtp | Form::Xs => Ok(()),
     }
-}
-
-/// Reads raw pictures one after the other, and writes each as it comes. At most one picture is held at a time.
-fn pictures<T: Threads + Sync, R: Source, W: Sink, G: Gate>(
-    threads: &T,
-    alloc: Global,
-    settings: &Checked,
-    form: Form,
-    input: &mut R,
-    output: &mut W,
-    gate: &G,
-) -> Result<u8, Stop>
-    ensures { AreDoneQuietly settings.now form
-        (change_of (R.left input.old) (R.left input.new) (R.faults input.old) (R.faults input.new))
-        (change_of (W.held output.old) (W.held output.new) (W.faults output.old) (W.faults output.new)) result }
-{
-    let shape = &settings.settings().shape;
-    let size = raw_size(shape);
-    let mut sequence = 0;
-    'pictures: for picture in 0..MOST_PICTURES {
-        let Some(raw) = read_raw(alloc, input, shape)? else {
-            return Ok(DONE);
-        };
-        let place = place_of(picture, size, sequence);
-        let packets = put(threads, alloc, settings, form, place, raw, output, gate)?;
-        sequence = next_sequence(sequence, packets);
-    }
-    let more = read(alloc, input, 1)?;
-    let byte = more.as_slice();
-    if byte.is_empty() {
-        return Ok(DONE);
-    }
-    Err(Stop::Told(Note::InputPictures {
-        count: MOST_PICTURES + 1,
-    }))
 }
 
 /// Where a picture stands.
@@ -131,103 +224,11 @@ fn next_sequence(sequence: u16, packets: u32) -> u16
     sequence.wrapping_add((packets % (1 << 16)) as u16)
 }
 
-/// Encodes and writes one picture, and answers the number of its packets.
-fn put<T: Threads + Sync, W: Sink, G: Gate>(
-    threads: &T,
-    alloc: Global,
-    settings: &Checked,
-    form: Form,
-    place: Place,
-    raw: RawPicture,
-    output: &mut W,
-    gate: &G,
-) -> Result<u32, Stop>
-    requires few { place.picture < most_pictures }
-    requires small { place.byte ≤ 2 ^ 36 }
-    requires raw { (bytes : List ℕ) × IsRawOf settings.now.shape bytes raw }
-    ensures taken { (bytes : List ℕ) → IsRawOf settings.now.shape bytes raw → IsTaken (change_of (W.held output.old) (W.held output.new) (W.faults output.old) (W.faults output.new)) (encode_turn settings.now form (before_of place) bytes) result }
-    ensures own { IfErr result IsOwnNote }
-    ensures later { IsLater (change_of (W.held output.old) (W.held output.new) (W.faults output.old) (W.faults output.new)) }
-{
-    let stream = stream_of(threads, alloc, settings, place, raw, gate)?;
-    write(alloc, settings, form, place, &stream, output)
-}
-
-/// The codestream of a picture.
-fn stream_of<T: Threads + Sync, G: Gate>(
-    threads: &T,
-    alloc: Global,
-    settings: &Checked,
-    place: Place,
-    raw: RawPicture,
-    gate: &G,
-) -> Result<Stream, Stop>
-    requires few { place.picture < most_pictures }
-    requires small { place.byte ≤ 2 ^ 36 }
-    requires raw { (bytes : List ℕ) × IsRawOf settings.now.shape bytes raw }
-    ensures stream { (bytes : List ℕ) → IsRawOf settings.now.shape bytes raw → IsStreamAt settings.now (before_of place) bytes result }
-    ensures packable { IfOk result (IsPackable settings.now) }
-    ensures range { AreInRange settings.now }
-    ensures own { IfErr result IsOwnNote }
-{
-    known_settings(settings);
-    let planes = match raw {
-        RawPicture::Whole(planes) => planes,
-        RawPicture::Cut { length } => {
-            return Err(Stop::Told(Note::InputCut {
-                place: place.byte + u64::from(length),
-            }));
-        }
-        RawPicture::Sample { place: at } => {
-            return Err(Stop::Told(Note::InputSample {
-                place: place.byte + u64::from(at),
-            }));
-        }
-    };
-    match encode_threaded(threads, alloc, &planes, settings, gate) {
-        Ok(encoded) => Ok(encoded.stream),
-        Err(SliceRefusal::Budget(budget)) => Err(Stop::Told(Note::Budget {
-            picture: place.picture,
-            slice: budget.slice,
-            size: budget.size,
-            share: budget.share,
-        })),
-        Err(SliceRefusal::Memory) => Err(Stop::Memory),
-    }
-}
-
 // What is true of all settings that were checked.
 fn known_settings(settings: &Checked)
     ensures { AreInRange settings.now }
 {
     let _settings = settings.settings();
-}
-
-/// Writes a codestream as one piece, or each of its packets as one.
-fn write<W: Sink>(
-    alloc: Global,
-    settings: &Checked,
-    form: Form,
-    place: Place,
-    stream: &Stream,
-    output: &mut W,
-) -> Result<u32, Stop>
-    requires few { place.picture < most_pictures }
-    requires packable { IsPackable settings.now stream.now }
-    requires range { AreInRange settings.now }
-    ensures taken { IsTaken (change_of (W.held output.old) (W.held output.new) (W.faults output.old) (W.faults output.new)) (written_as settings.now form (before_of place) stream.now) result }
-    ensures own { IfErr result IsOwnNote }
-    ensures later { IsLater (change_of (W.held output.old) (W.held output.new) (W.faults output.old) (W.faults output.new)) }
-{
-    match form {
-        Form::Xs => write_stream(alloc, stream, output),
-        Form::Rtp => write_packets(alloc, settings, Envelope::Frame, place, stream, output),
-        Form::Pcap { port } => {
-            let timestamp = timestamp_of(settings, place.picture);
-            let record = Envelope::Record { timestamp, port };
-            write_packets(alloc, settings, record, place, stream, output)
-        }
-    }
 }
 
 /// Writes a codestream, which has no packets.
@@ -239,29 +240,6 @@ fn write_stream<W: Sink>(alloc: Global, stream: &Stream, output: &mut W) -> Resu
     let bytes = stream.bytes(alloc)?;
     match give(output, bytes.as_slice()) {
         Ok(()) => Ok(0),
-        Err(why) => Err(why),
-    }
-}
-
-/// Writes the packets of a codestream, each after its length, and answers their number.
-fn write_packets<W: Sink>(
-    alloc: Global,
-    settings: &Checked,
-    envelope: Envelope,
-    place: Place,
-    stream: &Stream,
-    output: &mut W,
-) -> Result<u32, Stop>
-    requires few { place.picture < most_pictures }
-    requires packable { IsPackable settings.now stream.now }
-    requires range { AreInRange settings.now }
-    ensures taken { IsTaken (change_of (W.held output.old) (W.held output.new) (W.faults output.old) (W.faults output.new)) (written_in settings.now envelope (packets_sent settings.now (before_of place) stream.now)) result }
-    ensures own { IfErr result IsOwnNote }
-    ensures later { IsLater (change_of (W.held output.old) (W.held output.new) (W.faults output.old) (W.faults output.new)) }
-{
-    let packets = pack(alloc, stream, settings, place.picture, place.sequence)?;
-    match give_packets(alloc, &packets, envelope, output) {
-        Ok(()) => Ok(packets.len()),
         Err(why) => Err(why),
     }
 }

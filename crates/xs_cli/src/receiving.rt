@@ -18,10 +18,10 @@ use std::alloc::Global;
 use std::thread::Threads;
 use xs_capture::{SortFault, Sorted, sort_pictures};
 use xs_endings::{Stop, note_status, tell};
-use xs_io::{Gate, Numbers, Sink};
+use xs_io::{Gate, Numbers, Octets, Sink};
 use xs_notes::Note;
 use xs_params::Planes;
-use xs_pcap::{PcapFault, unwrap};
+use xs_pcap::{PcapFault, Unwrapped, unwrap};
 use xs_recv::{Damage, Received, receive_picture};
 
 /// Packets are missing.
@@ -34,37 +34,35 @@ pub struct Crew {
     pub feeders: u32,
 }
 
-impl Crew {
-    /// Unwraps a pcap file, and receives the pictures of the capture of its datagrams to a port.
-    pub fn receive_file<T: Threads + Sync, W: Sink, N: Sink, G: Gate>(
+/// What each picture of a capture is received with.
+#[derive(Drop)]
+pub struct Receiver<'a, T, G> {
+    pub threads: &'a T,
+    pub alloc: Global,
+    pub gate: &'a G,
+    pub crew: Crew,
+}
+
+impl<'a, T: Threads + Sync, G: Gate> Receiver<'a, T, G> {
+    /// Unwraps a pcap file, which is given up then, and receives the pictures of the capture of its datagrams to a port.
+    pub fn receive_file<W: Sink, N: Sink>(
         &self,
-        threads: &T,
-        alloc: Global,
-        bytes: &[u8],
+        bytes: Octets,
         port: u16,
         output: &mut W,
         notes: &mut N,
-        gate: &G,
     ) -> Result<u8, Stop>
-        requires short { length bytes.now ≤ input_limit }
-        requires some { 1 ≤ self.now.feeders }
-        requires few { self.now.feeders ≤ 8 }
-        ensures received { AreUnwrapped port bytes.now (change_of (W.held output.old) (W.held output.new) (W.faults output.old) (W.faults output.new)) (change_of (N.held notes.old) (N.held notes.new) (N.faults notes.old) (N.faults notes.new)) result }
+        requires short { length bytes ≤ input_limit }
+        requires some { 1 ≤ self.now.crew.feeders }
+        requires few { self.now.crew.feeders ≤ 8 }
+        ensures received { AreUnwrapped port bytes (change_of (W.held output.old) (W.held output.new) (W.faults output.old) (W.faults output.new)) (change_of (N.held notes.old) (N.held notes.new) (N.faults notes.old) (N.faults notes.new)) result }
         ensures stop { IsCommandStop result }
         ensures notes_later { IsLater (change_of (N.held notes.old) (N.held notes.new) (N.faults notes.old) (N.faults notes.new)) }
     {
-        match unwrap(alloc, bytes, port) {
-            Ok(unwrapped) => {
-                let capture = unwrapped.capture.as_slice();
-                self.receive(
-                    threads,
-                    alloc,
-                    capture,
-                    unwrapped.stepped,
-                    output,
-                    notes,
-                    gate,
-                )
+        match unwrap(self.alloc, bytes.as_slice(), port) {
+            Ok(Unwrapped { capture, stepped }) => {
+                drop(bytes);
+                self.receive(capture, stepped, output, notes)
             }
             Err(fault) => Err(file_refusal(fault)),
         }
@@ -72,84 +70,110 @@ impl Crew {
 
     /// Receives the pictures of a capture, one after the other by their timestamps, and says what comes of each before the next
     /// is received: its raw picture, or what is missing of it or damaged. Goes on after those. Answers the first status that is
-    /// not 0, or else 0. The bytes are copied once, and each picture's packets go with it. So many records were stepped over
-    /// before, and count as frames.
-    pub fn receive<T: Threads + Sync, W: Sink, N: Sink, G: Gate>(
+    /// not 0, or else 0. The bytes are copied once and given up then, and each picture's packets go with it. So many records were
+    /// stepped over before, and count as frames.
+    pub fn receive<W: Sink, N: Sink>(
         &self,
-        threads: &T,
-        alloc: Global,
-        bytes: &[u8],
+        bytes: Octets,
         records: u32,
         output: &mut W,
         notes: &mut N,
-        gate: &G,
     ) -> Result<u8, Stop>
-        requires short { length bytes.now + records < 2 ^ 32 }
-        requires some { 1 ≤ self.now.feeders }
-        requires few { self.now.feeders ≤ 8 }
-        ensures received { AreReceived records bytes.now (change_of (W.held output.old) (W.held output.new) (W.faults output.old) (W.faults output.new)) (change_of (N.held notes.old) (N.held notes.new) (N.faults notes.old) (N.faults notes.new)) result }
+        requires short { length bytes + records < 2 ^ 32 }
+        requires some { 1 ≤ self.now.crew.feeders }
+        requires few { self.now.crew.feeders ≤ 8 }
+        ensures received { AreReceived records bytes (change_of (W.held output.old) (W.held output.new) (W.faults output.old) (W.faults output.new)) (change_of (N.held notes.old) (N.held notes.new) (N.faults notes.old) (N.faults notes.new)) result }
         ensures stop { IsCommandStop result }
         ensures output_later { IsLater (change_of (W.held output.old) (W.held output.new) (W.faults output.old) (W.faults output.new)) }
         ensures notes_later { IsLater (change_of (N.held notes.old) (N.held notes.new) (N.faults notes.old) (N.faults notes.new)) }
     {
-        match sort_pictures(alloc, bytes) {
+        match sort_pictures(self.alloc, bytes.as_slice()) {
             Ok(sorted) => {
+                drop(bytes);
                 let stepped = sorted.stepped() + records;
-                self.pictures(threads, alloc, sorted, stepped, output, notes, gate)
+                self.pictures(sorted, stepped, output, notes)
             }
             Err(fault) => Err(refusal(fault)),
         }
     }
 
     /// Receives pictures that are sorted, and says what comes of each, after how many frames and records were stepped over.
-    fn pictures<T: Threads + Sync, W: Sink, N: Sink, G: Gate>(
+    fn pictures<W: Sink, N: Sink>(
         &self,
-        threads: &T,
-        alloc: Global,
         sorted: Sorted,
         stepped: u32,
         output: &mut W,
         notes: &mut N,
-        gate: &G,
     ) -> Result<u8, Stop>
         requires sorted { IsOfBytes sorted }
-        requires some { 1 ≤ self.now.feeders }
-        requires few { self.now.feeders ≤ 8 }
+        requires some { 1 ≤ self.now.crew.feeders }
+        requires few { self.now.crew.feeders ≤ 8 }
         ensures { HasSaid (IsSaidOfSorted (Ok (with_stepped sorted stepped))) (change_of (W.held output.old) (W.held output.new) (W.faults output.old) (W.faults output.new)) (change_of (N.held notes.old) (N.held notes.new) (N.faults notes.old) (N.faults notes.new)) result }
     {
         let mut sorted = sorted;
-        tell_stepped(alloc, stepped, notes)?;
+        tell_stepped(self.alloc, stepped, notes)?;
         let mut status = DONE;
         'pictures: for number in 0..sorted.count() {
-            let received = self.picture(threads, alloc, &mut sorted, number, gate)?;
-            let more = say(alloc, sorted.timestamp(number), &received, output, notes)?;
+            let received = self.picture(&mut sorted, number)?;
+            let more = self.say(sorted.timestamp(number), &received, output, notes)?;
             status = first_status(status, more);
         }
         Ok(status)
     }
 
     /// Receives a picture, whose packets are given up with it.
-    fn picture<T: Threads + Sync, G: Gate>(
-        &self,
-        threads: &T,
-        alloc: Global,
-        sorted: &mut Sorted,
-        number: u32,
-        gate: &G,
-    ) -> Result<Received, Stop>
+    fn picture(&self, sorted: &mut Sorted, number: u32) -> Result<Received, Stop>
         requires number { number < length sorted.old.timestamps }
         requires small { offered_bytes (offers_in sorted.old number) < 2 ^ 32 }
-        requires some { 1 ≤ self.now.feeders }
-        requires few { self.now.feeders ≤ 8 }
+        requires some { 1 ≤ self.now.crew.feeders }
+        requires few { self.now.crew.feeders ≤ 8 }
         ensures received { IfOk result (IsReceivedOf (offers_in sorted.old number)) }
         ensures named { IfOk result IsNamed }
         ensures left { OnOk result (sorted.new ≡ without_offers sorted.old number) }
         ensures memory { IfErr result (λ why. why ≡ Stop.Memory) }
     {
-        let parts = sorted.parts(number, self.feeders)?;
-        match receive_picture(threads, alloc, parts, self.workers, gate) {
+        let parts = sorted.parts(number, self.crew.feeders)?;
+        match receive_picture(
+            self.threads,
+            self.alloc,
+            parts,
+            self.crew.workers,
+            self.gate,
+        ) {
             Ok(reception) => Ok(reception.received),
             Err(_) => Err(Stop::Memory),
+        }
+    }
+
+    /// Says what is received of a picture, and answers its status.
+    fn say<W: Sink, N: Sink>(
+        &self,
+        timestamp: u32,
+        received: &Received,
+        output: &mut W,
+        notes: &mut N,
+    ) -> Result<u8, Stop>
+        requires { IsNamed received.now }
+        ensures { IsSaying (change_of (W.held output.old) (W.held output.new) (W.faults output.old) (W.faults output.new)) (change_of (N.held notes.old) (N.held notes.new) (N.faults notes.old) (N.faults notes.new)) (said_of timestamp received.now) result }
+    {
+        match received {
+            Received::Picture(planes) => write(self.alloc, planes, output),
+            Received::Missing { header: true, .. } => {
+                tell_one(
+                    self.alloc,
+                    &Note::MissingHeader { picture: timestamp },
+                    notes,
+                )
+            }
+            Received::Missing {
+                header: false,
+                slices,
+            } => tell_slices(self.alloc, timestamp, slices, notes),
+            Received::Damaged(damage) => tell_one(
+                self.alloc,
+                &damage_note(timestamp, *damage),
+                notes,
+            ),
         }
     }
 }
@@ -196,30 +220,6 @@ fn tell_stepped<N: Sink>(alloc: Global, count: u32, notes: &mut N) -> Result<(),
         return Ok(());
     }
     tell(alloc, notes, &Note::Stepped { count })
-}
-
-/// Says what is received of a picture, and answers its status.
-fn say<W: Sink, N: Sink>(
-    alloc: Global,
-    timestamp: u32,
-    received: &Received,
-    output: &mut W,
-    notes: &mut N,
-) -> Result<u8, Stop>
-    requires { IsNamed received.now }
-    ensures { IsSaying (change_of (W.held output.old) (W.held output.new) (W.faults output.old) (W.faults output.new)) (change_of (N.held notes.old) (N.held notes.new) (N.faults notes.old) (N.faults notes.new)) (said_of timestamp received.now) result }
-{
-    match received {
-        Received::Picture(planes) => write(alloc, planes, output),
-        Received::Missing { header: true, .. } => {
-            tell_one(alloc, &Note::MissingHeader { picture: timestamp }, notes)
-        }
-        Received::Missing {
-            header: false,
-            slices,
-        } => tell_slices(alloc, timestamp, slices, notes),
-        Received::Damaged(damage) => tell_one(alloc, &damage_note(timestamp, *damage), notes),
-    }
 }
 
 /// Writes a raw picture.

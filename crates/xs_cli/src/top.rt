@@ -6,10 +6,10 @@ ghost use Rattle.xs_cli.specs.Answer.{refusal_note};
 ghost use Rattle.xs_cli.specs.Run.{IsRun};
 ghost use Rattle.xs_cli.specs.Steps.{IsExecuted};
 
-use crate::decoding::Decoding;
-use crate::encoding::encode;
-use crate::receiving::Crew;
-use crate::trial::trial;
+use crate::decoding::Decoder;
+use crate::encoding::Encoder;
+use crate::receiving::{Crew, Receiver};
+use crate::trial::Trial;
 use std::alloc::Global;
 use std::thread::Threads;
 use xs_endings::{Stop, close};
@@ -57,9 +57,16 @@ fn execute<T: Threads + Sync, R: Source, W: Sink, N: Sink, G: Gate>(
         (change_of (N.held notes.old) (N.held notes.new) (N.faults notes.old) (N.faults notes.new))) result }
 {
     match command_of(alloc, words) {
-        Ok(Command::Encode { settings, form }) => encode(
-            threads, alloc, &settings, form, input, output, gate,
-        ),
+        Ok(Command::Encode { settings, form }) => {
+            let encoder = Encoder {
+                threads,
+                alloc,
+                gate,
+                settings: &settings,
+                form,
+            };
+            encoder.run(input, output)
+        }
         Ok(
             Command::Decode {
                 form,
@@ -67,15 +74,25 @@ fn execute<T: Threads + Sync, R: Source, W: Sink, N: Sink, G: Gate>(
                 feeders,
             },
         ) => {
-            let decoding = Decoding {
-                form,
-                crew: Crew { workers, feeders },
+            let crew = Crew { workers, feeders };
+            let receiver = Receiver {
+                threads,
+                alloc,
+                gate,
+                crew,
             };
-            decoding.decode(threads, alloc, input, output, notes, gate)
+            let decoder = Decoder { form, receiver };
+            decoder.decode(input, output, notes)
         }
-        Ok(Command::Trial { settings, seed }) => trial(
-            threads, alloc, &settings, seed, output, gate,
-        ),
+        Ok(Command::Trial { settings, seed }) => {
+            let trial = Trial {
+                threads,
+                alloc,
+                gate,
+                settings: &settings,
+            };
+            trial.run(seed, output)
+        }
         Err(refusal) => Err(Stop::Told(note_of(refusal))),
     }
 }

@@ -60,102 +60,87 @@ fn add_line(alloc: Global, lines: &mut Octets, word: &str, number: u64) -> Resul
     }
 }
 
-/// Makes the picture of a seed, encodes, sends and receives it, and writes what that came to as one piece.
-pub(crate) fn trial<T: Threads + Sync, W: Sink, G: Gate>(
-    threads: &T,
-    alloc: Global,
-    settings: &Checked,
-    seed: u32,
-    output: &mut W,
-    gate: &G,
-) -> Result<u8, Stop>
-    requires boxes { settings.now.boxes ≡ [] }
-    requires chunk { settings.now.chunk < 2 ^ 11 }
-    ensures { HasTried settings.now seed (change_of (W.held output.old) (W.held output.new) (W.faults output.old) (W.faults output.new)) result }
-{
-    known_range(settings);
-    let lines = lines_of(threads, alloc, settings, seed, gate)?;
-    match give(output, lines.as_slice()) {
-        Ok(()) => Ok(DONE),
-        Err(why) => Err(why),
+/// What the picture of a trial is encoded, sent and received with.
+#[derive(Drop)]
+pub(crate) struct Trial<'a, T, G> {
+    pub threads: &'a T,
+    pub alloc: Global,
+    pub gate: &'a G,
+    pub settings: &'a Checked,
+}
+
+impl<'a, T: Threads + Sync, G: Gate> Trial<'a, T, G> {
+    /// Makes the picture of a seed, encodes, sends and receives it, and writes what that came to as one piece.
+    pub fn run<W: Sink>(&self, seed: u32, output: &mut W) -> Result<u8, Stop>
+        requires boxes { self.now.settings.now.boxes ≡ [] }
+        requires chunk { self.now.settings.now.chunk < 2 ^ 11 }
+        ensures { HasTried self.now.settings.now seed (change_of (W.held output.old) (W.held output.new) (W.faults output.old) (W.faults output.new)) result }
+    {
+        known_range(self.settings);
+        let lines = self.lines_of(seed)?;
+        match give(output, lines.as_slice()) {
+            Ok(()) => Ok(DONE),
+            Err(why) => Err(why),
+        }
     }
-}
 
-/// What is written of the picture of a seed.
-fn lines_of<T: Threads + Sync, G: Gate>(
-    threads: &T,
-    alloc: Global,
-    settings: &Checked,
-    seed: u32,
-    gate: &G,
-) -> Result<Octets, Stop>
-    requires { IsTrialSized settings.now }
-    ensures { IsLinesOf settings.now seed result }
-{
-    let (picture, state) = trial_picture(alloc, &settings.settings().shape, seed)?;
-    let stream = stream_of(threads, alloc, settings, &picture, gate)?;
-    let outcome = send(threads, alloc, settings, &picture, &stream, state, gate)?;
-    let lines = outcome.lines(alloc)?;
-    Ok(lines)
-}
-
-/// The codestream of a picture.
-fn stream_of<T: Threads + Sync, G: Gate>(
-    threads: &T,
-    alloc: Global,
-    settings: &Checked,
-    picture: &Planes,
-    gate: &G,
-) -> Result<Stream, Stop>
-    requires { picture.now.shape ≡ settings.now.shape }
-    ensures { IsEncodedOr settings.now picture.now result }
-{
-    match encode_threaded(threads, alloc, picture, settings, gate) {
-        Ok(encoded) => Ok(encoded.stream),
-        Err(SliceRefusal::Budget(budget)) => Err(Stop::Told(Note::Budget {
-            picture: 0,
-            slice: budget.slice,
-            size: budget.size,
-            share: budget.share,
-        })),
-        Err(SliceRefusal::Memory) => Err(Stop::Memory),
+    /// What is written of the picture of a seed.
+    fn lines_of(&self, seed: u32) -> Result<Octets, Stop>
+        requires { IsTrialSized self.now.settings.now }
+        ensures { IsLinesOf self.now.settings.now seed result }
+    {
+        let shape = &self.settings.settings().shape;
+        let (picture, state) = trial_picture(self.alloc, shape, seed)?;
+        let stream = self.stream_of(&picture)?;
+        let outcome = self.send(&picture, &stream, state)?;
+        let lines = outcome.lines(self.alloc)?;
+        Ok(lines)
     }
-}
 
-/// Sends the packets of a codestream twice, in the order that the generator's state gives, and compares what is received
-/// with its picture.
-fn send<T: Threads + Sync, G: Gate>(
-    threads: &T,
-    alloc: Global,
-    settings: &Checked,
-    picture: &Planes,
-    stream: &Stream,
-    state: u64,
-    gate: &G,
-) -> Result<TrialOutcome, Memory>
-    requires sized { IsTrialSized settings.now }
-    requires shape { picture.now.shape ≡ settings.now.shape }
-    requires encoded { encoding_of settings.now picture.now ≡ Ok stream.now }
-    ensures { IfOk result (IsTrialOutcome settings.now picture.now stream.now) }
-{
-    let asked = settings.settings();
-    known_words(asked.ssrc);
-    let packets = pack(alloc, stream, settings, 0, 0)?;
-    let parts = deal(alloc, &packets, state, u32::from(asked.feeders))?;
-    let decoded = picture_of(receive_picture(
-        threads,
-        alloc,
-        parts,
-        u32::from(asked.workers),
-        gate,
-    )?);
-    let bytes = stream.bytes(alloc)?;
-    Ok(TrialOutcome {
-        slices: stream.len(),
-        bytes: bytes.len() as u64,
-        packets: packets.len(),
-        found: compare(picture, &decoded),
-    })
+    /// The codestream of a picture.
+    fn stream_of(&self, picture: &Planes) -> Result<Stream, Stop>
+        requires { picture.now.shape ≡ self.now.settings.now.shape }
+        ensures { IsEncodedOr self.now.settings.now picture.now result }
+    {
+        match encode_threaded(self.threads, self.alloc, picture, self.settings, self.gate) {
+            Ok(encoded) => Ok(encoded.stream),
+            Err(SliceRefusal::Budget(budget)) => Err(Stop::Told(Note::Budget {
+                picture: 0,
+                slice: budget.slice,
+                size: budget.size,
+                share: budget.share,
+            })),
+            Err(SliceRefusal::Memory) => Err(Stop::Memory),
+        }
+    }
+
+    /// Sends the packets of a codestream twice, in the order that the generator's state gives, and compares what is received
+    /// with its picture.
+    fn send(&self, picture: &Planes, stream: &Stream, state: u64) -> Result<TrialOutcome, Memory>
+        requires sized { IsTrialSized self.now.settings.now }
+        requires shape { picture.now.shape ≡ self.now.settings.now.shape }
+        requires encoded { encoding_of self.now.settings.now picture.now ≡ Ok stream.now }
+        ensures { IfOk result (IsTrialOutcome self.now.settings.now picture.now stream.now) }
+    {
+        let asked = self.settings.settings();
+        known_words(asked.ssrc);
+        let packets = pack(self.alloc, stream, self.settings, 0, 0)?;
+        let parts = deal(self.alloc, &packets, state, u32::from(asked.feeders))?;
+        let decoded = picture_of(receive_picture(
+            self.threads,
+            self.alloc,
+            parts,
+            u32::from(asked.workers),
+            self.gate,
+        )?);
+        let bytes = stream.bytes(self.alloc)?;
+        Ok(TrialOutcome {
+            slices: stream.len(),
+            bytes: bytes.len() as u64,
+            packets: packets.len(),
+            found: compare(picture, &decoded),
+        })
+    }
 }
 
 // What is true of settings that were checked.

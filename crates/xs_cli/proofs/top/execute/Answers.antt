@@ -15,7 +15,7 @@ pub returns-in-Ok-Encode : goal.returns-in-Ok-Encode
 returns-in-Ok-Encode g c =
     let words = map string_bytes c.args.words.now in
     let none : refusal_of words ≡ None = sym c.in-Ok-Encode.ensures.refused in
-    executed words (Encode c.in-Ok-Encode.settings c.in-Ok-Encode.form) _ c.encode.result none (sym c.in-Ok-Encode.field-0-is ∙ c.in-Ok-Encode.ensures.asked) (c.encode.ensures (g.N.Sink.held c.args.notes.now) (g.N.Sink.faults c.args.notes.now))
+    executed words (Encode c.in-Ok-Encode.settings c.in-Ok-Encode.form) _ c.run.result none (sym c.in-Ok-Encode.field-0-is ∙ c.in-Ok-Encode.ensures.asked) (c.run.ensures (g.N.Sink.held c.args.notes.now) (g.N.Sink.faults c.args.notes.now))
 
 pub returns-in-Ok-Decode : goal.returns-in-Ok-Decode
 returns-in-Ok-Decode g c =
@@ -34,15 +34,15 @@ pub returns-in-Ok-Trial : goal.returns-in-Ok-Trial
 returns-in-Ok-Trial g c =
     let words = map string_bytes c.args.words.now in
     let none : refusal_of words ≡ None = sym c.in-Ok-Trial.ensures.refused in
-    executed words (Trial c.in-Ok-Trial.settings c.in-Ok-Trial.seed) _ c.trial.result none (sym c.in-Ok-Trial.field-0-is ∙ c.in-Ok-Trial.ensures.asked)
-    (trial_done c.in-Ok-Trial.settings c.in-Ok-Trial.seed (g.R.Source.left c.args.input.now) (g.R.Source.faults c.args.input.now) _ (g.N.Sink.held c.args.notes.now) (g.N.Sink.faults c.args.notes.now) c.trial.result
-    c.trial.ensures)
+    executed words (Trial c.in-Ok-Trial.settings c.in-Ok-Trial.seed) _ c.run-in-Ok-Trial.result none (sym c.in-Ok-Trial.field-0-is ∙ c.in-Ok-Trial.ensures.asked)
+    (trial_done c.in-Ok-Trial.settings c.in-Ok-Trial.seed (g.R.Source.left c.args.input.now) (g.R.Source.faults c.args.input.now) _ (g.N.Sink.held c.args.notes.now) (g.N.Sink.faults c.args.notes.now) c.run-in-Ok-Trial.result
+    c.run-in-Ok-Trial.ensures)
 
-pub trial-requires-clause-boxes : goal.trial-requires-clause-boxes
-trial-requires-clause-boxes g c κs within = (subst IsSound c.in-Ok-Trial.field-0-is c.in-Ok-Trial.ensures.sound).0
+pub run-requires-in-Ok-Trial-clause-boxes : goal.run-requires-in-Ok-Trial-clause-boxes
+run-requires-in-Ok-Trial-clause-boxes g c κs within = (subst IsSound c.in-Ok-Trial.field-0-is c.in-Ok-Trial.ensures.sound).0
 
-pub trial-requires-clause-chunk : goal.trial-requires-clause-chunk
-trial-requires-clause-chunk g c κs within = (subst IsSound c.in-Ok-Trial.field-0-is c.in-Ok-Trial.ensures.sound).1
+pub run-requires-in-Ok-Trial-clause-chunk : goal.run-requires-in-Ok-Trial-clause-chunk
+run-requires-in-Ok-Trial-clause-chunk g c κs within = (subst IsSound c.in-Ok-Trial.field-0-is c.in-Ok-Trial.ensures.sound).1
 
 pub returns-in-Err : goal.returns-in-Err
 returns-in-Err g c =
